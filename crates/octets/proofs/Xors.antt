@@ -1,0 +1,61 @@
+-- Laws of adding runs of bytes bit by bit.
+-- Assumes nothing.
+use mathlib.Core.Path.{_≡_, refl, ap, ap₂}
+use Prim.Native.Nat.{ℕ, zero, suc, _≤_}
+use native.Mathlib.Omega.{arith}
+use mathlib.Core.List.{List, [], _∷_, _++_}
+use lib.ListN.{length, replicate}
+use Rattle.space.specs.Space.{_⊕_}
+use Rattle.space.specs.Lists.{Below}
+use Rattle.space.proofs.Xor.{⊕-comm, ⊕-assoc, ⊕-self, ⊕-zero, ⊕-cancel-r, ⊕-lt}
+use Rattle.octets.specs.Octets.{xorBytes}
+
+pub xorBytes-comm : (a b : List ℕ) → xorBytes a b ≡ xorBytes b a
+unfolding xorBytes
+xorBytes-comm [] [] = refl
+xorBytes-comm [] (y ∷ b) = refl
+xorBytes-comm (x ∷ a) [] = refl
+xorBytes-comm (x ∷ a) (y ∷ b) = ap₂ (λ h t. h ∷ t) (⊕-comm x y) (xorBytes-comm a b)
+
+pub xorBytes-assoc : (a b c : List ℕ) → xorBytes (xorBytes a b) c ≡ xorBytes a (xorBytes b c)
+unfolding xorBytes
+xorBytes-assoc [] b c = refl
+xorBytes-assoc (x ∷ a) [] c = refl
+xorBytes-assoc (x ∷ a) (y ∷ b) [] = refl
+xorBytes-assoc (x ∷ a) (y ∷ b) (z ∷ c) = ap₂ (λ h t. h ∷ t) (⊕-assoc x y z) (xorBytes-assoc a b c)
+
+pub xorBytes-self : (a : List ℕ) → xorBytes a a ≡ replicate (length a) 0
+unfolding xorBytes
+xorBytes-self [] = refl
+xorBytes-self (x ∷ a) = ap₂ (λ h t. h ∷ t) (⊕-self x) (xorBytes-self a)
+
+pub xorBytes-zero : (n : ℕ) (a : List ℕ) → length a ≤ n → xorBytes a (replicate n 0) ≡ a
+unfolding xorBytes
+xorBytes-zero n [] h = refl
+xorBytes-zero zero (x ∷ a) h = absurd (omega arith)
+xorBytes-zero (suc n) (x ∷ a) h = ap₂ (λ h t. h ∷ t) (⊕-zero x) (xorBytes-zero n a (omega arith))
+
+pub xorBytes-cancel : (a b : List ℕ) → length a ≤ length b → xorBytes (xorBytes a b) b ≡ a
+unfolding xorBytes
+xorBytes-cancel [] b h = refl
+xorBytes-cancel (x ∷ a) [] h = absurd (omega arith)
+xorBytes-cancel (x ∷ a) (y ∷ b) h = ap₂ (λ h t. h ∷ t) (⊕-cancel-r x y) (xorBytes-cancel a b (omega arith))
+
+pub length-xorBytes : (a b : List ℕ) → length a ≡ length b → length (xorBytes a b) ≡ length a
+unfolding xorBytes
+length-xorBytes [] b h = refl
+length-xorBytes (x ∷ a) [] h = absurd (omega arith)
+length-xorBytes (x ∷ a) (y ∷ b) h = ap suc (length-xorBytes a b (omega arith))
+
+pub xorBytes-below : (a b : List ℕ) → Below 256 a → Below 256 b → Below 256 (xorBytes a b)
+unfolding xorBytes
+xorBytes-below [] b h k = tt
+xorBytes-below (x ∷ a) [] h k = tt
+xorBytes-below (x ∷ a) (y ∷ b) h k = (⊕-lt 8 x y (h .0) (k .0), xorBytes-below a b (h .1) (k .1))
+
+pub xorBytes-append : (a b c d : List ℕ) → length a ≡ length b → xorBytes (a ++ c) (b ++ d) ≡ xorBytes a b ++ xorBytes c d
+unfolding xorBytes
+xorBytes-append [] [] c d h = refl
+xorBytes-append [] (y ∷ b) c d h = absurd (omega arith)
+xorBytes-append (x ∷ a) [] c d h = absurd (omega arith)
+xorBytes-append (x ∷ a) (y ∷ b) c d h = ap (λ t. x ⊕ y ∷ t) (xorBytes-append a b c d (omega arith))

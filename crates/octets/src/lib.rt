@@ -1,0 +1,1 @@
+// Bytes and the numbers that they stand for.

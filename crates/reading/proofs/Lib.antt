@@ -1,0 +1,11 @@
+pub mod Kept
+pub mod OneMore
+pub mod Linear
+pub mod Pick
+pub mod Page
+pub mod Checks
+pub mod Demand1
+pub mod Demand2
+pub mod Demand3
+pub mod Worked
+pub mod Frauds

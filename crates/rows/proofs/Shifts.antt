@@ -1,0 +1,109 @@
+-- Adding a page to a row: a one-to-one map that respects sums, keeps the constraint, and keeps agreement when the page gets the same page added.
+-- Assumes nothing.
+use mathlib.Core.Path.{_≡_, refl, sym, ap, _∙_}
+use Prim.Native.Nat.{ℕ, suc, _+_, _*_, _/_, _%_, _^_}
+use native.Mathlib.Nat.{mod-lt, zero-lt-suc, mod-eq-of-lt, lt-of-lt-of-le}
+use native.Mathlib.Omega.{arith}
+use mathlib.Core.List.{List, [], _∷_, map}
+use lib.Pow.{pow-mono}
+use lib.ListN.{length, getD, length-map}
+use Rattle.space.specs.Space.{_⊕_}
+use Rattle.space.specs.Lists.{Below, tabulate}
+use Rattle.space.proofs.Lists.{map-both}
+use Rattle.space.proofs.Xor.{zero-⊕, ⊕-zero, ⊕-four, ⊕-lt, times-⊕, eqb-⊕}
+use Rattle.octets.specs.Octets.{bytes, flat, xorBytes}
+use Rattle.octets.proofs.Xors.{xorBytes-append}
+use Rattle.octets.proofs.Numbers.{length-bytes, bytes-⊕}
+use Rattle.octets.proofs.Runs.{length-flat}
+use Rattle.rows.specs.Rows.{rowBytes, rowCount, rowsOf, constraint, payload, named, agrees}
+use Rattle.rows.specs.Shift.{shifted, shiftedList, plus}
+use Rattle.rows.proofs.Sums.{constraint-⊕, payload-⊕, constraint-zero, named-⊕, named-zero, named-lt}
+use Rattle.rows.proofs.Pages.{named-constraint}
+use Rattle.rows.proofs.Lists.{rowCount-flat, rows-flat, length-rowsOf, rows-below}
+
+-- ---- two pages added
+
+pub named-plus : (p q : List ℕ) → length p ≡ length q → (c : ℕ) → named (plus p q) c ≡ named p c ⊕ named q c
+unfolding plus named
+named-plus [] [] e c = sym (zero-⊕ 0)
+named-plus [] (t ∷ q) e c = absurd (omega arith)
+named-plus (s ∷ p) [] e c = absurd (omega arith)
+named-plus (s ∷ p) (t ∷ q) e c =
+    rw (times-⊕ (c % 2) s t (mod-lt c (zero-lt-suc 1))) (rw (named-plus p q (omega arith) (c / 2))
+    (⊕-four (c % 2 * s) (c % 2 * t) (named p (c / 2)) (named q (c / 2))))
+
+-- in bytes, they are added bit by bit
+pub flat-plus : (l : ℕ) (p q : List ℕ) → length p ≡ length q → flat l (plus p q) ≡ xorBytes (flat l p) (flat l q)
+unfolding plus flat xorBytes
+flat-plus l [] [] e = refl
+flat-plus l [] (t ∷ q) e = absurd (omega arith)
+flat-plus l (s ∷ p) [] e = absurd (omega arith)
+flat-plus l (s ∷ p) (t ∷ q) e =
+    rw (bytes-⊕ l s t) (rw (flat-plus l p q (omega arith))
+    (sym (xorBytes-append (bytes l s) (bytes l t) (flat l p) (flat l q) (length-bytes l s ∙ sym (length-bytes l t)))))
+
+pub tabulate-plus : (f : ℕ → ℕ) (q : List ℕ) → tabulate (length q) (λ k. f k ⊕ getD q k 0) ≡ plus (tabulate (length q) f) q
+unfolding tabulate plus
+tabulate-plus f [] = refl
+tabulate-plus f (t ∷ q) = ap (λ x. f 0 ⊕ t ∷ x) (tabulate-plus (λ k. f (suc k)) q)
+
+-- ---- a page added to a row
+
+pub shifted-⊕ : (l : ℕ) (page : List ℕ) (a b : ℕ) → shifted l page (a ⊕ b) ≡ shifted l page a ⊕ shifted l page b
+unfolding shifted
+shifted-⊕ l page a b =
+    rw (constraint-⊕ l a b) (rw (named-⊕ page (constraint l a) (constraint l b)) (⊕-four a b (named page (constraint l a)) (named page (constraint l b))))
+
+module _ (l : ℕ) (page : List ℕ) (b : Below (2 ^ (8 * l)) page) where
+  pub shifted-constraint : (row : ℕ) → constraint l (shifted l page row) ≡ constraint l row
+  unfolding shifted
+  shifted-constraint row = constraint-⊕ l row (named page (constraint l row)) ∙ rw (named-constraint l page b (constraint l row)) (⊕-zero (constraint l row))
+
+  pub shifted-payload : (row : ℕ) → payload l (shifted l page row) ≡ payload l row ⊕ named page (constraint l row)
+  unfolding shifted
+  shifted-payload row = payload-⊕ l row (named page (constraint l row)) ∙ ap (λ (x : ℕ). payload l row ⊕ x) small
+    where
+      small : payload l (named page (constraint l row)) ≡ named page (constraint l row)
+      small = unfold payload in mod-eq-of-lt (named-lt (8 * l) page b (constraint l row))
+
+  pub shifted-inj : (v : ℕ) → shifted l page v ≡ 0 → v ≡ 0
+  unfolding shifted
+  shifted-inj v e = sym (rw free (rw (named-zero page) (⊕-zero v))) ∙ e
+    where
+      free : constraint l v ≡ 0
+      free = sym (shifted-constraint v) ∙ ap (constraint l) e ∙ constraint-zero l
+
+  pub shifted-constraints : (rows : List ℕ) → map (constraint l) (map (shifted l page) rows) ≡ map (constraint l) rows
+  shifted-constraints rows = map-both (constraint l) (shifted l page) (constraint l) shifted-constraint rows
+
+  pub shifted-payloads : (rows : List ℕ) → map (payload l) (map (shifted l page) rows) ≡ map (λ r. payload l r ⊕ named page (constraint l r)) rows
+  shifted-payloads rows = map-both (payload l) (shifted l page) (λ r. payload l r ⊕ named page (constraint l r)) shifted-payload rows
+
+  pub shifted-agrees : (given : List ℕ) → length given ≡ length page → (r : ℕ) → agrees l (plus given page) (shifted l page r) ≡ agrees l given r
+  unfolding agrees
+  shifted-agrees given e r =
+      rw (shifted-constraint r) (rw (shifted-payload r) (rw (named-plus given page e (constraint l r))
+      (eqb-⊕ (payload l r) (named given (constraint l r)) (named page (constraint l r)))))
+
+  -- ---- to a list of rows
+
+  shifted-below : (rows : List ℕ) → Below (2 ^ (8 * rowBytes l)) rows → Below (2 ^ (8 * rowBytes l)) (map (shifted l page) rows)
+  unfolding shifted
+  shifted-below [] h = tt
+  shifted-below (r ∷ rows) h =
+      (⊕-lt (8 * rowBytes l) r _ (h .0) (lt-of-lt-of-le (named-lt (8 * l) page b (constraint l r)) (pow-mono (omega arith))), shifted-below rows (h .1))
+
+  module _ (list : List ℕ) (whole : length list ≡ rowCount l list * rowBytes l) (b256 : Below 256 list) where
+    pub rowCount-shiftedList : rowCount l (shiftedList l page list) ≡ rowCount l list
+    unfolding shiftedList
+    rowCount-shiftedList = rowCount-flat l (map (shifted l page) (rowsOf l list)) ∙ length-map (rowsOf l list) (shifted l page) ∙ length-rowsOf l list
+
+    pub length-shiftedList : length (shiftedList l page list) ≡ length list
+    unfolding shiftedList
+    length-shiftedList =
+        length-flat (8 + l) (map (shifted l page) (rowsOf l list))
+        ∙ ap (λ (m : ℕ). m * rowBytes l) (length-map (rowsOf l list) (shifted l page) ∙ length-rowsOf l list) ∙ sym whole
+
+    pub rows-shiftedList : rowsOf l (shiftedList l page list) ≡ map (shifted l page) (rowsOf l list)
+    unfolding shiftedList
+    rows-shiftedList = rows-flat l (map (shifted l page) (rowsOf l list)) (shifted-below (rowsOf l list) (rows-below l list whole b256))

@@ -1,0 +1,47 @@
+-- What crosses between two phones: pages, rows, and when a row agrees with a page. Document 01, "What crosses between two phones".
+-- A symbol, a constraint, a payload and a row are each the number of their bytes; a page is the list of its symbols.
+use Prim.Native.Nat.{ℕ, _+_, _*_, _/_, _%_, _^_}
+use mathlib.Core.Bool.{Bool, _&&_}
+use mathlib.Core.List.{List, [], _∷_}
+use lib.Dec.{eqb, leb}
+use lib.ListN.{length}
+use Rattle.space.specs.Space.{_⊕_}
+use Rattle.octets.specs.Octets.{numbers}
+
+-- "n is 1 to 64, L is 1 to 32."
+unfoldable pub shape : ℕ → ℕ → Bool
+shape n l = (leb 1 n && leb n 64) && (leb 1 l && leb l 32)
+
+-- "Symbol k (from 0) is bytes kL to kL+L-1."
+unfoldable pub symbols : ℕ → ℕ → List ℕ → List ℕ
+symbols n l page = numbers l n page
+
+-- "In a list a row has 8+L bytes":
+abbrev pub rowBytes : ℕ → ℕ
+rowBytes l = 8 + l
+
+unfoldable pub rowCount : ℕ → List ℕ → ℕ
+rowCount l list = length list / rowBytes l
+
+unfoldable pub rowsOf : ℕ → List ℕ → List ℕ
+rowsOf l list = numbers (rowBytes l) (rowCount l list) list
+
+-- "the constraint as a big-endian 64-bit number, .. then the payload."
+unfoldable pub constraint : ℕ → ℕ → ℕ
+constraint l row = row / 2 ^ (8 * l)
+
+unfoldable pub payload : ℕ → ℕ → ℕ
+payload l row = row % 2 ^ (8 * l)
+
+-- "the exclusive-or of the symbols its constraint names"; "the bit worth 2^k names symbol k"; "the empty sum is all zero bytes."
+unfoldable pub named : List ℕ → ℕ → ℕ
+named [] c = 0
+named (s ∷ page) c = c % 2 * s ⊕ named page (c / 2)
+
+-- "A row agrees with a page when its payload is the exclusive-or of the symbols its constraint names".
+unfoldable pub agrees : ℕ → List ℕ → ℕ → Bool
+agrees l page row = eqb (payload l row) (named page (constraint l row))
+
+-- The row that a page gives for a constraint.
+unfoldable pub made : ℕ → List ℕ → ℕ → ℕ
+made l page c = c * 2 ^ (8 * l) + named page c

@@ -1,0 +1,5 @@
+pub mod Lists
+pub mod Xor
+pub mod Sets
+pub mod Dimension
+pub mod Linear
