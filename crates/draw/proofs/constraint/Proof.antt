@@ -1,0 +1,62 @@
+-- `draw::constraint` meets its contract, in each arm by the test that led there; the bit that stands for a zero lies below 64.
+-- Assumes nothing.
+use mathlib.Core.Path.{_≡_}
+use Prim.Native.Nat.{_%_, _^_, _<_}
+use native.Mathlib.Nat.{mod-lt}
+use native.Mathlib.Omega.{arith}
+use borrow.Author.Needs.{needs}
+use borrow.Author.Tests.{ne-eqb}
+use Rattle.draw.specs.Draw.{settled, twoDraws, constraint}
+use Rattle.draw.proofs.Shifts.{shl-one}
+use Rattle.draw.proofs.constraint.Statement.{statement}
+use Rattle.draw.proofs.constraint.Tie as tie
+
+settled-requires : tie.Need-settled-requires
+settled-requires c κs = search needs
+
+two-draws-requires : tie.Need-two-draws-requires
+two-draws-requires c κs = search needs
+
+lowest-requires : tie.Need-lowest-requires
+lowest-requires c κs = search needs
+
+rem-result : tie.Need-rem-result
+rem-result c = search needs
+
+bit-lt : (c : tie.Then1) → c .before .before .before .before .args .seed % c .before .before .before .before .args .n < 64
+bit-lt c =
+    let start = c .before .before .before .before in
+    omega (arith, mod-lt (start .args .seed) (start .pre .0))
+
+cast-result : tie.Need-cast-result
+cast-result c = omega (arith, bit-lt c)
+
+shl-result : tie.Need-shl-result
+shl-result c = bit-lt c
+
+returns : tie.Need-returns
+unfolding constraint
+returns c =
+    let start = c .before .before .before .before .args in
+    let zero-is : twoDraws (settled (start .seed)) % 2 ^ start .n ≡ 0 = cc in
+    rw (zero-is, shl-one (start .seed % start .n) 64 (bit-lt c))
+
+returns-2 : tie.Need-returns-2
+unfolding constraint
+returns-2 c =
+    let start = c .before .before .before .before .args in
+    let low-is : c .before .lowest .result ≡ twoDraws (settled (start .seed)) % 2 ^ start .n = cc in
+    rw (← low-is, ne-eqb (c .before .lowest .result) 0 (c .if1 .left))
+
+pub constraint-spec : {M : Type 1} → statement M
+constraint-spec =
+    tie.close
+    (tie.spec
+    settled-requires
+    two-draws-requires
+    lowest-requires
+    rem-result
+    cast-result
+    shl-result
+    returns
+    returns-2)
