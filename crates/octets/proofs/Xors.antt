@@ -1,14 +1,15 @@
 -- Laws of adding runs of bytes bit by bit.
 -- Assumes nothing.
 use mathlib.Core.Path.{_≡_, refl, ap, ap₂}
-use Prim.Native.Nat.{ℕ, zero, suc, _≤_}
+use Prim.Native.Nat.{ℕ, zero, suc, min, _≤_, _<_}
 use native.Mathlib.Omega.{arith}
-use mathlib.Core.List.{List, [], _∷_, _++_}
-use lib.ListN.{length, replicate}
+use mathlib.Core.List.{List, [], _∷_, _++_, append-nil}
+use lib.ListN.{length, getD, replicate}
+use lib.Seq.{drop-nil, drop-length}
 use Rattle.space.specs.Space.{_⊕_}
 use Rattle.space.specs.Lists.{Below}
 use Rattle.space.proofs.Xor.{⊕-comm, ⊕-assoc, ⊕-self, ⊕-zero, ⊕-cancel-r, ⊕-lt}
-use Rattle.octets.specs.Octets.{xorBytes}
+use Rattle.octets.specs.Octets.{xorBytes, addFront, over}
 
 pub xorBytes-comm : (a b : List ℕ) → xorBytes a b ≡ xorBytes b a
 unfolding xorBytes
@@ -47,6 +48,20 @@ length-xorBytes [] b h = refl
 length-xorBytes (x ∷ a) [] h = absurd (omega arith)
 length-xorBytes (x ∷ a) (y ∷ b) h = ap suc (length-xorBytes a b (omega arith))
 
+-- of any two lengths
+pub length-xorBytes-min : (a b : List ℕ) → length (xorBytes a b) ≡ min (length a) (length b)
+unfolding xorBytes
+length-xorBytes-min [] b = omega arith
+length-xorBytes-min (x ∷ a) [] = omega arith
+length-xorBytes-min (x ∷ a) (y ∷ b) = omega (arith, length-xorBytes-min a b)
+
+pub getD-xorBytes : (a b : List ℕ) (i : ℕ) → i < length a → i < length b → getD (xorBytes a b) i 0 ≡ getD a i 0 ⊕ getD b i 0
+unfolding xorBytes
+getD-xorBytes [] b i h k = absurd (omega arith)
+getD-xorBytes (x ∷ a) [] i h k = absurd (omega arith)
+getD-xorBytes (x ∷ a) (y ∷ b) zero h k = refl
+getD-xorBytes (x ∷ a) (y ∷ b) (suc i) h k = getD-xorBytes a b i (omega arith) (omega arith)
+
 pub xorBytes-below : (a b : List ℕ) → Below 256 a → Below 256 b → Below 256 (xorBytes a b)
 unfolding xorBytes
 xorBytes-below [] b h k = tt
@@ -59,3 +74,21 @@ xorBytes-append [] [] c d h = refl
 xorBytes-append [] (y ∷ b) c d h = absurd (omega arith)
 xorBytes-append (x ∷ a) [] c d h = absurd (omega arith)
 xorBytes-append (x ∷ a) (y ∷ b) c d h = ap (λ t. x ⊕ y ∷ t) (xorBytes-append a b c d (omega arith))
+
+-- ---- bytes added to the front of a buffer
+
+pub addFront-over : (a b : List ℕ) → addFront a b ≡ over (xorBytes a b) a
+unfolding addFront over xorBytes
+addFront-over [] b = ap (λ t. t) (drop-nil (length b))
+addFront-over (x ∷ a) [] = refl
+addFront-over (x ∷ a) (y ∷ b) = ap (λ t. x ⊕ y ∷ t) (addFront-over a b)
+
+pub addFront-whole : (a b : List ℕ) → length a ≡ length b → addFront a b ≡ xorBytes a b
+unfolding addFront
+addFront-whole a b e = rw (← e, drop-length a) (append-nil (xorBytes a b))
+
+pub length-addFront : (a b : List ℕ) → length (addFront a b) ≡ length a
+unfolding addFront xorBytes
+length-addFront [] b = ap length (drop-nil {A = ℕ} (length b))
+length-addFront (x ∷ a) [] = refl
+length-addFront (x ∷ a) (y ∷ b) = ap suc (length-addFront a b)

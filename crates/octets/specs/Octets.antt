@@ -33,3 +33,11 @@ xorBytes (x ∷ xs) (y ∷ ys) = x ⊕ y ∷ xorBytes xs ys
 -- A buffer with its first elements written anew; all further ones stay.
 unfoldable pub over : List ℕ → List ℕ → List ℕ
 over new old = new ++ drop (length new) old
+
+-- A buffer with bytes added bit by bit to its first ones; all further ones stay.
+unfoldable pub addFront : List ℕ → List ℕ → List ℕ
+addFront a b = xorBytes a b ++ drop (length b) a
+
+-- A buffer with elements written anew from an index on; those on either side stay.
+unfoldable pub lay : ℕ → List ℕ → List ℕ → List ℕ
+lay at new old = take at old ++ (new ++ drop (length new) (drop at old))

@@ -1,0 +1,10 @@
+pub mod Digits
+pub mod Passes
+pub mod Stops
+pub mod Slots
+pub mod Stands
+pub mod Lifted
+pub mod Eliminate
+pub mod Solve
+pub mod Model
+pub mod Parting

@@ -1,0 +1,29 @@
+-- Each contract of this crate settles the result and every lent byte.
+-- Assumes nothing.
+use mathlib.Core.Path.{ap}
+use Rattle.octets.proofs.Unique.{unique, Settles}
+use Rattle.octets.proofs.add.Kinds as add
+use Rattle.octets.proofs.add.Reads as add-contract
+use Rattle.octets.proofs.clear.Kinds as clear
+use Rattle.octets.proofs.clear.Reads as clear-contract
+use Rattle.octets.proofs.copy.Kinds as copy
+use Rattle.octets.proofs.copy.Reads as copy-contract
+use Rattle.octets.proofs.put.Kinds as put
+use Rattle.octets.proofs.put.Reads as put-contract
+use Rattle.octets.proofs.get.Kinds as get
+use Rattle.octets.proofs.get.Reads as get-contract
+
+pub add-settled : Settles add.ps add.r add-contract.Post
+add-settled κs args = unique (λ o is. ap (λ v. (tt, (v, (tt, tt)))) is)
+
+pub clear-settled : Settles clear.ps clear.r clear-contract.Post
+clear-settled κs args = unique (λ o is. ap (λ v. (tt, (v, tt))) is)
+
+pub copy-settled : Settles copy.ps copy.r copy-contract.Post
+copy-settled κs args = unique (λ o is. ap (λ v. (tt, (v, (tt, tt)))) is)
+
+pub put-settled : Settles put.ps put.r put-contract.Post
+put-settled κs args = unique (λ o is. ap (λ v. (tt, (v, (tt, tt)))) is)
+
+pub get-settled : Settles get.ps get.r get-contract.Post
+get-settled κs args = unique (λ o is. ap (λ r. (r, (tt, tt))) is)
