@@ -72,35 +72,45 @@ digit-none k x h e = go (decLt x (2 ^ k))
     go (yes l) = l
     go (no l) = absurd (true≢false (sym (digit-top k x (record { low = omega arith; high = h })) ∙ e))
 
+-- ---- the digit itself
+
+abbrev pub bit : ℕ → ℕ → ℕ
+bit k x = x / 2 ^ k % 2
+
 -- a remainder keeps the digits below
+bit-mod : (k j x : ℕ) → bit k (x % 2 ^ (j + (1 + k))) ≡ bit k x
+bit-mod k j x = sym (field (x % 2 ^ (j + (1 + k))) 1 k) ∙ ap (λ (y : ℕ). y / 2 ^ k) (mod-mod-pow x j (1 + k)) ∙ field x 1 k
+
 pub digit-mod : (k j x : ℕ) → digit k (x % 2 ^ (j + (1 + k))) ≡ digit k x
 unfolding digit
-digit-mod k j x =
-    ap (λ (y : ℕ). eqb y 1) (sym (field (x % 2 ^ (j + (1 + k))) 1 k) ∙ ap (λ (y : ℕ). y / 2 ^ k) (mod-mod-pow x j (1 + k)) ∙ field x 1 k)
+digit-mod k j x = ap (λ (y : ℕ). eqb y 1) (bit-mod k j x)
 
 -- and so does what is added above them
-pub digit-above : (k m hi lo : ℕ) → k < m → lo < 2 ^ m → digit k (hi * 2 ^ m + lo) ≡ digit k lo
-digit-above k m hi lo h l = sym (whole (hi * 2 ^ m + lo)) ∙ ap (digit k) (low hi m l ∙ sym (mod-eq-of-lt l)) ∙ whole lo
+bit-above : (k m hi lo : ℕ) → k < m → lo < 2 ^ m → bit k (hi * 2 ^ m + lo) ≡ bit k lo
+bit-above k m hi lo h l = sym (whole (hi * 2 ^ m + lo)) ∙ ap (bit k) (low hi m l ∙ sym (mod-eq-of-lt l)) ∙ whole lo
   where
     wide : (m - suc k) + (1 + k) ≡ m
     wide = omega arith
 
-    whole : (x : ℕ) → digit k (x % 2 ^ m) ≡ digit k x
-    whole x = rw wide at (digit-mod k (m - suc k) x)
+    whole : (x : ℕ) → bit k (x % 2 ^ m) ≡ bit k x
+    whole x = rw wide at (bit-mod k (m - suc k) x)
 
--- a digit of a number is one of what stands above the lowest m
-pub digit-shift : (m j x : ℕ) → digit (m + j) x ≡ digit j (x / 2 ^ m)
-unfolding digit
-digit-shift m j x = rw (shr-shr x m j)
+-- a digit is one of what stands above the lowest m
+bit-shift : (m j x : ℕ) → bit (m + j) x ≡ bit j (x / 2 ^ m)
+bit-shift m j x = rw (shr-shr x m j)
 
 -- ---- the digits of a byte, among bytes
 
-pub digit-byte : (a : List ℕ) (p j : ℕ) → Below 256 a → p < length a → j < 8 → digit (8 * (length a - suc p) + j) (number a) ≡ digit j (getD a p 0)
+pub bit-byte : (a : List ℕ) (p j : ℕ) → Below 256 a → p < length a → j < 8 → bit (8 * (length a - suc p) + j) (number a) ≡ bit j (getD a p 0)
 unfolding number
-digit-byte [] p j b h l = absurd (omega arith)
-digit-byte (x ∷ a) zero j b h l =
+bit-byte [] p j b h l = absurd (omega arith)
+bit-byte (x ∷ a) zero j b h l =
     let k : 8 * (suc (length a) - 1) + j ≡ 8 * length a + j = omega arith in
-    rw k (digit-shift (8 * length a) j (x * 2 ^ (8 * length a) + number a) ∙ rw (high x (8 * length a) (number-lt a (b .1))))
-digit-byte (x ∷ a) (suc p) j b h l =
+    rw k (bit-shift (8 * length a) j (x * 2 ^ (8 * length a) + number a) ∙ rw (high x (8 * length a) (number-lt a (b .1))))
+bit-byte (x ∷ a) (suc p) j b h l =
     let k : 8 * (suc (length a) - suc (suc p)) + j ≡ 8 * (length a - suc p) + j = omega arith in
-    rw k (digit-above (8 * (length a - suc p) + j) (8 * length a) x (number a) (omega arith) (number-lt a (b .1)) ∙ digit-byte a p j (b .1) (omega arith) l)
+    rw k (bit-above (8 * (length a - suc p) + j) (8 * length a) x (number a) (omega arith) (number-lt a (b .1)) ∙ bit-byte a p j (b .1) (omega arith) l)
+
+pub digit-byte : (a : List ℕ) (p j : ℕ) → Below 256 a → p < length a → j < 8 → digit (8 * (length a - suc p) + j) (number a) ≡ digit j (getD a p 0)
+unfolding digit
+digit-byte a p j b h l = ap (λ (y : ℕ). eqb y 1) (bit-byte a p j b h l)

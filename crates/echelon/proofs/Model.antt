@@ -3,7 +3,7 @@
 use mathlib.Core.Path.{_≡_, refl, sym, ap, ap₂, _∙_}
 use Prim.Native.Nat.{ℕ, _*_, _^_, _≤_, _<_}
 use native.Mathlib.Omega.{arith}
-use mathlib.Core.Bool.{Bool, true, false, cond, not}
+use mathlib.Core.Bool.{Bool, true, false, not}
 use mathlib.Core.List.{List, [], _∷_, _++_, append-nil}
 use lib.Dec.{ltb}
 use lib.ListN.{length, length-set, length-append, length-replicate}
@@ -20,7 +20,7 @@ use Rattle.reading.proofs.Pick.{length-uses}
 use Rattle.echelon.specs.Algorithm2.{digits, pass, Working, start, keeping, counting, step, steps, algorithm2}
 use Rattle.echelon.proofs.Stands.{stand-none}
 use Rattle.echelon.proofs.Lifted.{lifted}
-use Rattle.echelon.proofs.Eliminate.{Rows, left, rows-low, rows-set, rows-test, rows-keep}
+use Rattle.echelon.proofs.Elimination.{Rows, left, rows-low, rows-set, rows-test, rows-keep}
 
 -- what the algorithm holds after some rows, with t digits below and d above
 pub record Right (t d : ℕ) (rows : List ℕ) (s : Working) : Type 0 where
@@ -31,6 +31,10 @@ pub record Right (t d : ℕ) (rows : List ℕ) (s : Working) : Type 0 where
 
 pub rank-room : (d : ℕ) (rows : List ℕ) → Below (2 ^ d) rows → length (keptRows rows) ≤ d
 rank-room d rows b = independent-most d (keptRows rows) (kept-below (2 ^ d) rows b) (kept-independent rows)
+
+pub rank-most : (d : ℕ) (rows : List ℕ) → Below (2 ^ d) rows → rank rows ≤ d
+unfolding rank
+rank-most d rows b = rank-room d rows b
 
 module _ (t d : ℕ) (room : d ≤ t) (rows : List ℕ) (row : ℕ) (b : Below (2 ^ d) (rows ++ (row ∷ []))) (s : Working) (R : Right t d rows s) where
   small : row < 2 ^ length (s .slots)
@@ -73,17 +77,24 @@ module _ (t d : ℕ) (room : d ≤ t) (rows : List ℕ) (row : ℕ) (b : Below (
       names : digits (length (keptRows rows)) (left t (s .slots) row) ≡ setOf (keptRows rows) row
       names = rows-set t (keptRows rows) (s .slots) before (R .slots) row (kept-independent rows) low
 
-  pub step-right : Right t d (rows ++ (row ∷ [])) (step t row s)
-  unfolding step
-  step-right = go (spans (keptRows rows) row) refl (ltb (pass t (s .slots) (row * 2 ^ t) .place) (length (s .slots))) refl
-    where
-      test : ltb (pass t (s .slots) (row * 2 ^ t) .place) (length (s .slots)) ≡ not (spans (keptRows rows) row)
-      test = rows-test t (keptRows rows) (s .slots) before (R .slots) row small
+  -- the two ways of a step
+  pub step-test : ltb (pass t (s .slots) (row * 2 ^ t) .place) (length (s .slots)) ≡ not (spans (keptRows rows) row)
+  step-test = rows-test t (keptRows rows) (s .slots) before (R .slots) row small
 
-      go : (b : Bool) → spans (keptRows rows) row ≡ b → (c : Bool) → ltb (pass t (s .slots) (row * 2 ^ t) .place) (length (s .slots)) ≡ c
-          → Right t d (rows ++ (row ∷ [])) (cond c (keeping (pass t (s .slots) (row * 2 ^ t)) s) (counting (pass t (s .slots) (row * 2 ^ t)) s))
-      go true e c p = rw (sym p ∙ test ∙ ap not e) (counting-right e)
-      go false e c p = rw (sym p ∙ test ∙ ap not e) (keeping-right e (ltb-true _ _ (test ∙ ap not e)))
+  pub step-kept : spans (keptRows rows) row ≡ false → step t row s ≡ keeping (pass t (s .slots) (row * 2 ^ t)) s
+  unfolding step
+  step-kept e = rw (step-test ∙ ap not e)
+
+  pub step-other : spans (keptRows rows) row ≡ true → step t row s ≡ counting (pass t (s .slots) (row * 2 ^ t)) s
+  unfolding step
+  step-other e = rw (step-test ∙ ap not e)
+
+  pub step-right : Right t d (rows ++ (row ∷ [])) (step t row s)
+  step-right = go (spans (keptRows rows) row) refl
+    where
+      go : (b : Bool) → spans (keptRows rows) row ≡ b → Right t d (rows ++ (row ∷ [])) (step t row s)
+      go true e = rw (step-other e) (counting-right e)
+      go false e = rw (step-kept e) (keeping-right e (ltb-true _ _ (step-test ∙ ap not e)))
 
 steps-right : (t d : ℕ) → d ≤ t → (rows before : List ℕ) → Below (2 ^ d) (before ++ rows) → (s : Working) → Right t d before s
     → Right t d (before ++ rows) (steps t rows s)

@@ -1,1 +1,4 @@
 pub mod Algorithm2
+pub mod Reducing
+pub mod State
+pub mod Holds

@@ -1,13 +1,14 @@
--- One byte more: what a loop that reads or writes a number byte by byte holds.
+-- The bytes of a number one by one and side by side: one more behind, the one at an index, the first and the last of them, and zero.
 -- Assumes nothing.
 use mathlib.Core.Path.{_≡_, refl, sym, ap, ap₂, _∙_}
-use Prim.Native.Nat.{ℕ, zero, suc, _+_, _-_, _*_, _/_, _%_, _^_, _<_}
-use native.Mathlib.Nat.{zero-add, suc-add, zero-div}
+use Prim.Native.Nat.{ℕ, zero, suc, _+_, _-_, _*_, _/_, _%_, _^_, _≤_, _<_}
+use native.Mathlib.Nat.{zero-add, suc-add, zero-div, one-mul, lt-of-not-le, not-le-of-lt}
 use native.Mathlib.Numerals.{add-one}
 use native.Mathlib.Omega.{arith}
 use mathlib.Core.List.{List, [], _∷_, _++_}
 use lib.Bits.{bitOr, or-shifted}
-use lib.Pow.{shr-shr, mod-pow-add, high, low}
+use lib.Dec.{lit<}
+use lib.Pow.{shr-shr, shl-exact, pow-mono, mod-pow-add, high, low}
 use lib.ListN.{length, take, drop, getD, replicate, length-drop, take-append-drop}
 use lib.Seq.{take-suc}
 use Rattle.space.specs.Lists.{Below}
@@ -76,3 +77,13 @@ pub bytes-zero : (w : ℕ) → bytes w 0 ≡ replicate w 0
 unfolding bytes
 bytes-zero zero = refl
 bytes-zero (suc w) = ap₂ (λ y t. y ∷ t) (ap (λ (y : ℕ). y % 256) (zero-div (2 ^ (8 * w)))) (bytes-zero w)
+
+-- ---- one bit of a word
+
+-- 1 << n, in a word of w bits
+pub one-shl : (n w : ℕ) → n < w → 1 * 2 ^ n % 2 ^ w ≡ 2 ^ n
+one-shl n w h = shl-exact {a = 1} 1 n w (lit< tt) (omega arith) ∙ one-mul (2 ^ n)
+
+-- a power of two below another
+pub pow-lt-inv : (i j : ℕ) → 2 ^ i < 2 ^ j → i < j
+pow-lt-inv i j h = lt-of-not-le (λ (k : j ≤ i). not-le-of-lt h (pow-mono k))

@@ -89,6 +89,16 @@ lay-lay at a b old e h =
     ap₂ (λ s t. s ++ over a t) (take-before at at b old (le-refl at) h) (drop-lay at b old h)
     ∙ ap (λ t. take at old ++ t) (over-over a b (drop at old) e)
 
+-- ---- a part that was lent comes back: what the checker says, `s[..k]` and `s[at..at + k]`
+
+pub over-back : (k : ℕ) (new old : List ℕ) → length new ≡ k → new ++ drop k old ≡ over new old
+unfolding over
+over-back k new old e = rw e
+
+pub lay-back : (at k : ℕ) (new old : List ℕ) → length new ≡ k → take at old ++ (new ++ drop k (drop at old)) ≡ lay at new old
+unfolding lay
+lay-back at k new old e = rw e
+
 -- ---- laid into a part of a part
 
 pub lay-drop : (a b : ℕ) (new old : List ℕ) → lay (a + b) new old ≡ take a old ++ lay b new (drop a old)

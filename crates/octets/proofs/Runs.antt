@@ -1,12 +1,15 @@
 -- Runs of numbers of one width, as bytes: there and back; and a buffer whose front is written.
 -- Assumes nothing.
 use mathlib.Core.Path.{_≡_, refl, sym, ap, ap₂, _∙_}
-use Prim.Native.Nat.{ℕ, zero, suc, _*_, _^_, _≤_}
-use native.Mathlib.Nat.{zero-mul}
+use Prim.Native.Nat.{ℕ, zero, suc, _*_, _^_, _≤_, _<_}
+use native.Mathlib.Nat.{zero-mul, suc-mul, add-comm, lt-of-lt-of-le}
 use native.Mathlib.Omega.{arith}
 use mathlib.Core.List.{List, [], _∷_, _++_}
-use lib.ListN.{length, take, drop, length-append, length-drop, take-append-drop}
-use lib.Seq.{take-at, drop-at, length-take-le}
+use lib.Pow.{pow-mono}
+use lib.ListN.{length, take, drop, getD, length-append, length-take, length-drop, take-append-drop}
+use lib.Seq.{take-at, drop-at, drop-drop, length-take-le}
+use mir.Syntax.{w8}
+use mir.Val.{Fits}
 use Rattle.space.specs.Lists.{Below}
 use Rattle.space.proofs.Lists.{below-append, below-split}
 use Rattle.octets.specs.Octets.{number, bytes, numbers, flat, over}
@@ -32,13 +35,29 @@ unfolding flat
 flat-below w [] = tt
 flat-below w (x ∷ xs) = below-append 256 (bytes w x) (flat w xs) (bytes-below w x) (flat-below w xs)
 
-pub numbers-below : (w m : ℕ) (bs : List ℕ) → length bs ≡ m * w → Below 256 bs → Below (2 ^ (8 * w)) (numbers w m bs)
+-- of a run of any length: where bytes are missing, the number is smaller
+pub numbers-small : (w m : ℕ) (bs : List ℕ) → Below 256 bs → Below (2 ^ (8 * w)) (numbers w m bs)
 unfolding numbers
-numbers-below w zero bs e b = tt
-numbers-below w (suc m) bs e b =
-    let size : length (take w bs) ≡ w = length-take-le w bs (omega arith) in
+numbers-small w zero bs b = tt
+numbers-small w (suc m) bs b =
     let parts : Below 256 (take w bs) × Below 256 (drop w bs) = below-parts 256 w bs b in
-    (rw size at (number-lt (take w bs) (parts .0)), numbers-below w m (drop w bs) (omega (arith, length-drop w bs)) (parts .1))
+    let short : 8 * length (take w bs) ≤ 8 * w = omega (arith, length-take w bs) in
+    (lt-of-lt-of-le (number-lt (take w bs) (parts .0)) (pow-mono short), numbers-small w m (drop w bs) (parts .1))
+
+pub numbers-below : (w m : ℕ) (bs : List ℕ) → length bs ≡ m * w → Below 256 bs → Below (2 ^ (8 * w)) (numbers w m bs)
+numbers-below w m bs e b = numbers-small w m bs b
+
+pub getD-numbers : (w m : ℕ) (bs : List ℕ) (k : ℕ) → k < m → getD (numbers w m bs) k 0 ≡ number (take w (drop (k * w) bs))
+unfolding numbers
+getD-numbers w zero bs k h = absurd (omega arith)
+getD-numbers w (suc m) bs zero h = ap (λ (j : ℕ). number (take w (drop j bs))) (sym (zero-mul w))
+getD-numbers w (suc m) bs (suc k) h =
+    getD-numbers w m (drop w bs) k (omega arith) ∙ ap (λ t. number (take w t)) (drop-drop (k * w) w bs ∙ ap (λ (j : ℕ). drop j bs) (add-comm w (k * w) ∙ sym (suc-mul k w)))
+
+-- what owning a slice of bytes tells of them
+pub known-below : (bs : List ℕ) → ((i : ℕ) → Fits w8 (getD bs i 0)) → Below 256 bs
+known-below [] known = tt
+known-below (x ∷ bs) known = (known 0 .fits, known-below bs (λ i. known (suc i)))
 
 -- ---- there and back
 

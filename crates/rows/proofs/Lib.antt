@@ -2,3 +2,8 @@ pub mod Lists
 pub mod Sums
 pub mod Pages
 pub mod Shifts
+pub mod Shape
+pub mod Bits
+pub mod Making
+pub mod Written
+pub mod Settled

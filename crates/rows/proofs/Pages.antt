@@ -1,8 +1,8 @@
 -- The rows that a page gives: making one is a one-to-one map that respects sums, and a row that agrees with a page is the one it gives.
 -- Assumes nothing.
 use mathlib.Core.Path.{_≡_, refl, sym, ap, ap₂, _∙_}
-use Prim.Native.Nat.{ℕ, _+_, _*_, _/_, _%_, _^_}
-use native.Mathlib.Nat.{div-eq-of-lt}
+use Prim.Native.Nat.{ℕ, _+_, _*_, _/_, _%_, _^_, _≤_}
+use native.Mathlib.Nat.{div-eq-of-lt, mul-div-cancel}
 use mathlib.Core.Bool.{true}
 use mathlib.Core.List.{List, [], _∷_, map}
 use lib.Bits.{bitXor, xor-block}
@@ -12,17 +12,28 @@ use borrow.Author.Tests.{eqb-true, eq-eqb}
 use Rattle.space.specs.Space.{_⊕_, independent}
 use Rattle.space.specs.Lists.{Below, All}
 use Rattle.space.proofs.Linear.{map-independent}
-use Rattle.octets.proofs.Runs.{length-numbers, numbers-below}
+use Rattle.octets.proofs.Runs.{length-numbers, numbers-small}
 use Rattle.rows.specs.Rows.{symbols, constraint, payload, named, agrees, made}
+use Rattle.rows.specs.Make.{cut}
 use Rattle.rows.proofs.Sums.{constraint-zero, named-⊕, named-lt}
 
 pub length-symbols : (n l : ℕ) (page : List ℕ) → length (symbols n l page) ≡ n
 unfolding symbols
 length-symbols n l page = length-numbers l n page
 
-pub symbols-below : (n l : ℕ) (page : List ℕ) → length page ≡ n * l → Below 256 page → Below (2 ^ (8 * l)) (symbols n l page)
+-- of a page of any length
+pub symbols-small : (n l : ℕ) (page : List ℕ) → Below 256 page → Below (2 ^ (8 * l)) (symbols n l page)
 unfolding symbols
-symbols-below n l page size b = numbers-below l n page size b
+symbols-small n l page b = numbers-small l n page b
+
+pub symbols-below : (n l : ℕ) (page : List ℕ) → length page ≡ n * l → Below 256 page → Below (2 ^ (8 * l)) (symbols n l page)
+symbols-below n l page size b = symbols-small n l page b
+
+-- a page of whole symbols is cut into those
+pub cut-symbols : (n l : ℕ) (page : List ℕ) → 1 ≤ l → length page ≡ n * l → cut l page ≡ symbols n l page
+cut-symbols n l page low e =
+    let count : length page / l ≡ n = rw e (mul-div-cancel n low) in
+    ap (λ (m : ℕ). symbols m l page) count
 
 module _ (l : ℕ) (page : List ℕ) (b : Below (2 ^ (8 * l)) page) where
   pub named-constraint : (c : ℕ) → constraint l (named page c) ≡ 0

@@ -1,4 +1,163 @@
 // Rows and pages: what crosses between two phones.
+ghost use mathlib.Core.Path.{_≡_};
+ghost use Prim.Native.Nat.{suc, _+_, _/_, _%_, _^_, _≤_, _<_};
+ghost use lib.Dec.{eqb};
+ghost use lib.ListN.{length};
+ghost use Rattle.octets.specs.Octets.{number, bytes, xorBytes};
+ghost use Rattle.rows.specs.Rows.{shape, named, agrees};
+ghost use Rattle.rows.specs.Make.{makeAnswer, makeRoom, stray, cut, bytesAgree};
 
 // The place of a row in a list, from 0. A kept place is another type, so that one can't be taken for the other.
 pub struct Arrival(pub usize);
+
+// The answer of making; specs/Make.antt gives document 01's number and place for each case.
+pub enum Made {
+    Row,
+    Shape,
+    Stray,
+    Room,
+    Length,
+}
+
+// Whether n and L are in range.
+pub fn shaped(n: u8, l: u8) -> bool
+    ensures { λ r. ⌜ r ≡ shape n l ⌝ }
+{
+    if n < 1 {
+        return false;
+    }
+    if 64 < n {
+        return false;
+    }
+    if l < 1 {
+        return false;
+    }
+    l <= 32
+}
+
+// Whether a constraint names a symbol that a page of n symbols has not.
+pub fn strays(n: u8, constraint: u64) -> bool
+    ensures { λ r. ⌜ r ≡ stray n constraint ⌝ }
+{
+    if 64 <= n {
+        return false;
+    }
+    (1u64 << n) <= constraint
+}
+
+// The lowest bits of x, n of them.
+fn low(x: u64, n: usize) -> u64
+    ensures { λ r. ⌜ r ≡ x % 2 ^ n ⌝ }
+{
+    if n < 64 { x % (1u64 << n) } else { x }
+}
+
+// The place of the highest set bit.
+fn top(x: u64) -> usize
+    requires { ⌜ 0 < x ⌝ }
+    ensures { λ r. ⌜ (2 ^ r ≤ x) × (x < 2 ^ suc r) ⌝ }
+{
+    63 - (u64::leading_zeros(x) as usize)
+}
+
+// Adds to into each symbol of page that a bit of names stands for; a symbol is as long as into.
+fn add_named(into: &mut [u8], page: &[u8], names: u64)
+    requires { ⌜ (0 < length (now into)) × (names < 2 ^ (length (now page) / length (now into))) ⌝ }
+    ensures { λ _. ⌜ now (into .exit) ≡ xorBytes (now (into .entry)) (bytes (length (now (into .entry))) (named (cut (length (now (into .entry))) (now (page .entry))) names)) ⌝ }
+{
+    let l = into.len();
+    let mut rest = names;
+    while 0 < rest {
+        let k = top(rest);
+        let start = k * l;
+        let end = start + l;
+        octets::add(into, &page[start..end]);
+        rest = rest - (1u64 << k);
+    }
+}
+
+// Writes over into the sum of the symbols of page that constraint names; a symbol is as long as into. Bits past the page name nothing.
+pub fn sum(into: &mut [u8], page: &[u8], constraint: u64)
+    ensures { λ _. ⌜ now (into .exit) ≡ bytes (length (now (into .entry))) (named (cut (length (now (into .entry))) (now (page .entry))) constraint) ⌝ }
+{
+    octets::clear(into);
+    let l = into.len();
+    if l == 0 {
+        return;
+    }
+    let n = page.len() / l;
+    add_named(into, page, low(constraint, n));
+}
+
+// The answer of making, by the lengths of the page and the room.
+fn answer(n: u8, l: u8, constraint: u64, page: usize, room: usize) -> Made
+    ensures { λ r. ⌜ r ≡ makeAnswer n l constraint page room ⌝ }
+{
+    if !shaped(n, l) {
+        return Made::Shape;
+    }
+    if page != (n as usize) * (l as usize) {
+        return Made::Length;
+    }
+    if strays(n, constraint) {
+        return Made::Stray;
+    }
+    if room < 8 + (l as usize) {
+        return Made::Room;
+    }
+    Made::Row
+}
+
+// Makes the row that page gives for constraint, at the start of room.
+pub fn make(n: u8, l: u8, constraint: u64, page: &[u8], room: &mut [u8]) -> Made
+    ensures answer { λ r. ⌜ r ≡ makeAnswer n l constraint (length (now (page .entry))) (length (now (room .entry))) ⌝ }
+    ensures room { λ _. ⌜ now (room .exit) ≡ makeRoom n l constraint (now (page .entry)) (now (room .entry)) ⌝ }
+{
+    let said = answer(n, l, constraint, page.len(), room.len());
+    let Made::Row = said else {
+        return said;
+    };
+    let end = 8 + (l as usize);
+    octets::put(&mut room[..8], constraint);
+    sum(&mut room[8..end], page, constraint);
+    Made::Row
+}
+
+fn same(a: &[u8], b: &[u8]) -> bool
+    requires { ⌜ length (now a) ≡ length (now b) ⌝ }
+    ensures { λ r. ⌜ r ≡ eqb (number (now (a .entry))) (number (now (b .entry))) ⌝ }
+{
+    let mut i: usize = 0;
+    while i < a.len() {
+        if a[i] != b[i] {
+            return false;
+        }
+        i += 1;
+    }
+    true
+}
+
+// Whether a row agrees with a page; work is as long as the payload.
+fn agrees_in(work: &mut [u8], page: &[u8], row: &[u8]) -> bool
+    requires { ⌜ length (now row) ≡ 8 + length (now work) ⌝ }
+    ensures { λ r. ⌜ r ≡ agrees (length (now (work .entry))) (cut (length (now (work .entry))) (now (page .entry))) (number (now (row .entry))) ⌝ }
+{
+    sum(work, page, octets::get(&row[..8]));
+    same(&row[8..], work)
+}
+
+// Whether a row agrees with a page, whose symbols are as long as the row's payload.
+pub fn agrees(page: &[u8], row: &[u8]) -> bool
+    ensures { λ r. ⌜ r ≡ bytesAgree (now (page .entry)) (now (row .entry)) ⌝ }
+{
+    let size = row.len();
+    if size < 9 {
+        return false;
+    }
+    if 40 < size {
+        return false;
+    }
+    let l = size - 8;
+    let mut work = [0u8; 32];
+    agrees_in(&mut work[..l], page, row)
+}

@@ -1,0 +1,94 @@
+-- Counting along a list, and the loop that does it.
+-- Assumes nothing.
+use mathlib.Core.Path.{_≡_, refl, sym, ap, _∙_}
+use Prim.Native.Nat.{ℕ, zero, suc, _+_, _≤_, _<_}
+use native.Mathlib.Numerals.{add-one}
+use native.Mathlib.Omega.{arith}
+use mathlib.Core.Bool.{Bool, true, false, cond, false≢true}
+use mathlib.Core.List.{List, [], _∷_, map}
+use lib.Dec.{leb}
+use lib.ListN.{length, take, getD}
+use lib.Seq.{take-suc, take-all}
+use borrow.Author.Tests.{lt-leb}
+use mir.Val.{boolByte}
+use Rattle.space.specs.Lists.{count, marked, Below}
+use Rattle.space.proofs.Lists.{count-snoc}
+
+-- what passes one test passes another
+pub count-mono : (p q : ℕ → Bool) → ((x : ℕ) → p x ≡ true → q x ≡ true) → (xs : List ℕ) → count p xs ≤ count q xs
+unfolding count
+count-mono p q f [] = omega arith
+count-mono p q f (x ∷ xs) = go (p x) (q x) (f x) (count-mono p q f xs)
+  where
+    go : (a b : Bool) → (a ≡ true → b ≡ true) → count p xs ≤ count q xs
+        → cond a (suc (count p xs)) (count p xs) ≤ cond b (suc (count q xs)) (count q xs)
+    go true true h k = omega arith
+    go true false h k = absurd (false≢true (h refl))
+    go false true h k = omega arith
+    go false false h k = k
+
+pub count-marked : (p : ℕ → Bool) (xs : List ℕ) → marked (map p xs) ≡ count p xs
+unfolding count marked
+count-marked p [] = refl
+count-marked p (x ∷ xs) = rw (count-marked p xs)
+
+-- tests of which one passes no more than the other, and as many
+pub count-agree : (p q : ℕ → Bool) → ((x : ℕ) → p x ≡ true → q x ≡ true) → (xs : List ℕ) → count q xs ≤ count p xs → map p xs ≡ map q xs
+unfolding count
+count-agree p q f [] h = refl
+count-agree p q f (x ∷ xs) h = go (p x) (q x) (f x) h (count-agree p q f xs)
+  where
+    go : (a b : Bool) → (a ≡ true → b ≡ true) → cond b (suc (count q xs)) (count q xs) ≤ cond a (suc (count p xs)) (count p xs)
+        → (count q xs ≤ count p xs → map p xs ≡ map q xs) → a ∷ map p xs ≡ b ∷ map q xs
+    go true true i h ih = ap (λ t. true ∷ t) (ih (omega arith))
+    go true false i h ih = absurd (false≢true (i refl))
+    go false true i h ih = absurd (omega (arith, count-mono p q f xs))
+    go false false i h ih = ap (λ t. false ∷ t) (ih h)
+
+-- none reaches what all are below
+pub count-beyond : (t : ℕ) (xs : List ℕ) → Below t xs → count (leb t) xs ≡ 0
+unfolding count
+count-beyond t [] b = refl
+count-beyond t (x ∷ xs) b = rw (lt-leb t x (b .0)) (count-beyond t xs (b .1))
+
+pub count-next : (p : ℕ → Bool) (xs : List ℕ) (i : ℕ) → i < length xs → count p (take (i + 1) xs) ≡ count p (take i xs) + boolByte (p (getD xs i 0))
+count-next p xs i h = rw (add-one i, take-suc xs i 0 h, count-snoc p (take i xs) (getD xs i 0)) (go (p (getD xs i 0)))
+  where
+    go : (b : Bool) → cond b (suc (count p (take i xs))) (count p (take i xs)) ≡ count p (take i xs) + boolByte b
+    go true = omega arith
+    go false = omega arith
+
+pub count-take : (p : ℕ → Bool) (k : ℕ) (xs : List ℕ) → count p (take k xs) ≤ count p xs
+unfolding count
+count-take p zero xs = omega arith
+count-take p (suc k) [] = omega arith
+count-take p (suc k) (x ∷ xs) = go (p x) (count-take p k xs)
+  where
+    go : (b : Bool) → count p (take k xs) ≤ count p xs → cond b (suc (count p (take k xs))) (count p (take k xs)) ≤ cond b (suc (count p xs)) (count p xs)
+    go true h = omega arith
+    go false h = h
+
+-- A loop that counts along a list, at turn i.
+pub record Counting (p : ℕ → Bool) (xs : List ℕ) (sum i : ℕ) : Type 0 where
+  pub within : i ≤ length xs
+  pub most : sum ≤ i
+  pub holds : sum ≡ count p (take i xs)
+
+pub counting-start : (p : ℕ → Bool) (xs : List ℕ) → Counting p xs 0 0
+unfolding count
+counting-start p xs = record { within = omega arith; most = omega arith; holds = refl }
+
+module _ (p : ℕ → Bool) (xs : List ℕ) (sum i : ℕ) (counting : Counting p xs sum i) where
+  pub counting-more : i < length xs → (b : Bool) → b ≡ p (getD xs i 0) → Counting p xs (sum + boolByte b) (i + 1)
+  counting-more h b e = record {
+    within = omega arith;
+    most = omega (arith, counting .most, at-most b);
+    holds = rw (counting .holds, e) (sym (count-next p xs i h));
+  }
+    where
+      at-most : (b : Bool) → boolByte b ≤ 1
+      at-most true = omega arith
+      at-most false = omega arith
+
+  pub counting-end : length xs ≤ i → sum ≡ count p xs
+  counting-end h = counting .holds ∙ ap (count p) (take-all i xs h)

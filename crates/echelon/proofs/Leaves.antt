@@ -1,0 +1,126 @@
+-- What the leaves of the code do to bytes: a digit turned, a digit read, a pair of bytes read and written.
+-- Assumes nothing.
+use mathlib.Core.Path.{_≡_, refl, sym, ap, _∙_}
+use mathlib.Core.List.{List, [], _∷_, _++_}
+use Prim.Native.Nat.{ℕ, zero, suc, _+_, _-_, _*_, _/_, _%_, _^_, _≤_, _<_}
+use native.Mathlib.Nat.{mod-lt, zero-lt-suc, zero-mul, zero-add, one-mul, add-zero, mod-eq-of-lt, lt-of-lt-of-le}
+use native.Mathlib.Omega.{arith}
+use lib.Bits.{bitXor, bitOr, xor-block, xor-zero-r, xor-lt, or-shifted}
+use lib.ListN.{length, getD, set, take, drop, replicate, length-set, length-replicate}
+use lib.Seq.{take-all}
+use lib.Pow.{pow-pos, pow-add, pow-lt, pow-mono, shl-lt}
+use Rattle.space.specs.Space.{_⊕_}
+use Rattle.space.specs.Lists.{Below}
+use Rattle.octets.specs.Octets.{number, bytes, over, lay}
+use Rattle.octets.proofs.Numbers.{number-lt, bytes-number, number-append}
+use Rattle.echelon.proofs.Digits.{bit, bit-byte}
+
+-- ---- one byte changed
+
+below-set : (v : List ℕ) (i x : ℕ) → Below 256 v → x < 256 → Below 256 (set v i x)
+below-set [] i x b h = tt
+below-set (y ∷ v) zero x b h = (h, b .1)
+below-set (y ∷ v) (suc i) x b h = (b .0, below-set v i x (b .1) h)
+
+pub below-at : (v : List ℕ) (i : ℕ) → Below 256 v → getD v i 0 < 256
+below-at [] i b = omega arith
+below-at (x ∷ v) zero b = b .0
+below-at (x ∷ v) (suc i) b = below-at v i (b .1)
+
+number-set : (v : List ℕ) (i y : ℕ) → i < length v → Below 256 v → y < 2 ^ 8
+    → number (set v i (bitXor (getD v i 0) y)) ≡ number v ⊕ y * 2 ^ (8 * (length v - suc i))
+unfolding number _⊕_
+number-set [] i y h b l = absurd (omega arith)
+number-set (x ∷ a) zero y h b l =
+    let k : suc (length a) - 1 ≡ length a = omega arith in
+    let s : bitXor (x * 2 ^ (8 * length a) + number a) (y * 2 ^ (8 * length a) + 0) ≡ bitXor x y * 2 ^ (8 * length a) + bitXor (number a) 0 =
+    xor-block (8 * length a) x y (number a) 0 (number-lt a (b .1)) (pow-pos (8 * length a)) in
+    let z : bitXor (number a) 0 ≡ number a = xor-zero-r (number a) in
+    rw k (rw (add-zero (y * 2 ^ (8 * length a)), z) at (sym s))
+number-set (x ∷ a) (suc i) y h b l =
+    let k : suc (length a) - suc (suc i) ≡ length a - suc i = omega arith in
+    let small : y * 2 ^ (8 * (length a - suc i)) < 2 ^ (8 * length a) = lt-of-lt-of-le (shl-lt 8 (8 * (length a - suc i)) l) (pow-mono (omega arith)) in
+    let s : bitXor (x * 2 ^ (8 * length a) + number a) (0 * 2 ^ (8 * length a) + y * 2 ^ (8 * (length a - suc i)))
+    ≡ bitXor x 0 * 2 ^ (8 * length a) + bitXor (number a) (y * 2 ^ (8 * (length a - suc i))) =
+    xor-block (8 * length a) x 0 (number a) (y * 2 ^ (8 * (length a - suc i))) (number-lt a (b .1)) small in
+    rw (k, length-set a i (bitXor (getD a i 0) y), number-set a i y (omega arith) (b .1) l)
+    (sym (rw (zero-mul (2 ^ (8 * length a)), zero-add (y * 2 ^ (8 * (length a - suc i))), xor-zero-r x) at s))
+
+-- ---- the digit worth 2 ^ j
+
+abbrev pub byteOf : List ℕ → ℕ → ℕ
+byteOf v j = length v - 1 - j / 8
+
+module _ (v : List ℕ) (j : ℕ) (h : j < 8 * length v) (b : Below 256 v) where
+  where-is : 8 * (length v - suc (byteOf v j)) ≡ 8 * (j / 8)
+  where-is = omega arith
+
+  pub digit-read : bit (j % 8) (getD v (byteOf v j) 0) ≡ bit j (number v)
+  digit-read =
+      let e : 8 * (length v - suc (byteOf v j)) + j % 8 ≡ j = omega arith in
+      sym (rw e at (bit-byte v (byteOf v j) (j % 8) b (omega arith) (omega arith)))
+
+  pub digit-turned : set v (byteOf v j) (bitXor (getD v (byteOf v j) 0) (1 * 2 ^ (j % 8) % 256)) ≡ bytes (length v) (number v ⊕ 2 ^ j)
+  digit-turned =
+      let l : 2 ^ (j % 8) < 2 ^ 8 = pow-lt (mod-lt j (zero-lt-suc 7)) in
+      let one : 1 * 2 ^ (j % 8) % 256 ≡ 2 ^ (j % 8) = rw (one-mul, mod-eq-of-lt l) in
+      let two : 2 ^ (j % 8) * 2 ^ (8 * (j / 8)) ≡ 2 ^ j = sym (pow-add 2 (j % 8) (8 * (j / 8))) ∙ ap (λ (x : ℕ). 2 ^ x) (omega arith) in
+      let new : List ℕ = set v (byteOf v j) (bitXor (getD v (byteOf v j) 0) (2 ^ (j % 8))) in
+      let n : number new ≡ number v ⊕ 2 ^ j = number-set v (byteOf v j) (2 ^ (j % 8)) (omega arith) b l ∙ rw (where-is, two) in
+      rw one (sym (bytes-number new (below-set v (byteOf v j) _ b (xor-lt 8 (getD v (byteOf v j) 0) (2 ^ (j % 8)) (below-at v (byteOf v j) b) l)))
+      ∙ ap (λ (k : ℕ). bytes k (number new)) (length-set v (byteOf v j) _) ∙ ap (bytes (length v)) n)
+
+-- ---- a pair of bytes
+
+pub pair-joined : (x y : ℕ) → x < 256 → y < 256 → bitOr (x * 256 % 4294967296) y ≡ x * 256 + y
+pair-joined x y h l =
+    let small : x * 256 < 4294967296 = omega arith in
+    ap (λ (z : ℕ). bitOr z y) (mod-eq-of-lt small) ∙ or-shifted x 8 y l
+
+pub pair-read : (c : List ℕ) (a : ℕ) → a + 2 ≤ length c → getD c a 0 * 256 + getD c (a + 1) 0 ≡ number (take 2 (drop a c))
+unfolding number
+pair-read [] a h = absurd (omega arith)
+pair-read (x ∷ []) zero h = absurd (omega arith)
+pair-read (x ∷ y ∷ c) zero h = omega arith
+pair-read (x ∷ c) (suc a) h =
+    let e : suc a + 1 ≡ suc (a + 1) = omega arith in
+    rw e (pair-read c a (omega arith))
+
+pub pair-written : (c : List ℕ) (a x : ℕ) → a + 2 ≤ length c → set (set c a (x / 256 % 256)) (a + 1) (x % 256) ≡ lay a (bytes 2 x) c
+unfolding bytes lay
+pair-written [] a x h = absurd (omega arith)
+pair-written (y ∷ []) zero x h = absurd (omega arith)
+pair-written (y ∷ z ∷ c) zero x h =
+    let e : x / 1 % 256 ≡ x % 256 = omega arith in
+    rw e
+pair-written (y ∷ c) (suc a) x h =
+    let e : suc a + 1 ≡ suc (a + 1) = omega arith in
+    rw e (ap (λ (l : List ℕ). y ∷ l) (pair-written c a x (omega arith)))
+
+pub byte-written : (c : List ℕ) (i x : ℕ) → i < length c → set c i x ≡ lay i (x ∷ []) c
+unfolding lay
+byte-written [] i x h = absurd (omega arith)
+byte-written (y ∷ c) zero x h = refl
+byte-written (y ∷ c) (suc i) x h = ap (λ (l : List ℕ). y ∷ l) (byte-written c i x (omega arith))
+
+-- ---- a row and zeros
+
+number-zeros : (n : ℕ) → number (replicate n 0) ≡ 0
+unfolding number
+number-zeros zero = refl
+number-zeros (suc n) = rw (zero-mul (2 ^ (8 * length {A = ℕ} (replicate n 0)))) (zero-add (number (replicate n 0)) ∙ number-zeros n)
+
+pub number-loaded : (row : List ℕ) (n : ℕ) → number (row ++ replicate n 0) ≡ number row * 2 ^ (8 * n)
+number-loaded row n = number-append row (replicate n 0) ∙ rw (number-zeros n, length-replicate {A = ℕ} n 0) (add-zero _)
+
+drop-replicate : (k n : ℕ) → drop {A = ℕ} k (replicate n 0) ≡ replicate (n - k) 0
+drop-replicate zero n = let e : n - 0 ≡ n = omega arith in rw e
+drop-replicate (suc k) zero = let e : 0 - suc k ≡ 0 = omega arith in rw e
+drop-replicate (suc k) (suc n) = let e : suc n - suc k ≡ n - k = omega arith in rw e (drop-replicate k n)
+
+pub loaded-is : (row work : List ℕ) → length row ≤ length work
+    → over (take (length {A = ℕ} (replicate (length work) 0)) row) (replicate (length work) 0) ≡ row ++ replicate (length work - length row) 0
+unfolding over
+loaded-is row work h =
+    let n : length {A = ℕ} (replicate (length work) 0) ≡ length work = length-replicate (length work) 0 in
+    rw n (rw (take-all (length work) row h) (ap (λ t. row ++ t) (drop-replicate (length row) (length work))))

@@ -1,0 +1,93 @@
+-- A row offered to a state that holds others: the pass in bytes is Algorithm 2's, and what fits.
+-- Assumes nothing.
+use mathlib.Core.Path.{_≡_, sym, ap, ap₂, _∙_}
+use mathlib.Core.Bool.{not}
+use mathlib.Core.List.{List, [], _∷_, _++_}
+use Prim.Native.Nat.{ℕ, suc, _+_, _*_, _^_, _≤_, _<_}
+use native.Mathlib.Numerals.{add-one}
+use native.Mathlib.Omega.{arith}
+use lib.Dec.{ltb}
+use lib.ListN.{length, length-append}
+use Rattle.space.specs.Space.{spans}
+use Rattle.space.specs.Lists.{Below}
+use Rattle.space.proofs.Lists.{below-append}
+use Rattle.rows.specs.Rows.{rowBytes}
+use Rattle.reading.specs.Reading.{keptRows, rank, uses}
+use Rattle.reading.proofs.Pick.{length-uses}
+use Rattle.echelon.specs.Algorithm2.{Pass, pass, Working, step, algorithm2}
+use Rattle.echelon.specs.State.{mostKept, passIn, taken, absorption}
+use Rattle.echelon.specs.Holds.{Holds}
+use Rattle.echelon.proofs.Model.{Right, step-right, algorithm2-right, algorithm2-snoc, rank-most, rank-room, step-test}
+use Rattle.echelon.proofs.Elimination.{rows-lt}
+use Rattle.echelon.proofs.Places.{sizes}
+use Rattle.echelon.proofs.Absorbing.{Takes, takes-when, absorbed-so}
+
+pub record Offer (l : ℕ) (rows : List ℕ) (row : ℕ) (state : List ℕ) : Type 0 where
+  pub holds : Holds l rows state
+  pub more : length rows < 512
+  pub small : row < 2 ^ (8 * rowBytes l)
+
+module _ {l : ℕ} {rows : List ℕ} {row : ℕ} {state : List ℕ} (O : Offer l rows row state) where
+  abbrev pub key : ℕ
+  key = rowBytes l
+
+  abbrev pub before : Working
+  before = algorithm2 mostKept (8 * key) rows
+
+  abbrev pub p : Pass
+  p = passIn key row state
+
+  pub narrow : key ≤ 40
+  narrow = omega (arith, O .holds .most)
+
+  pub right : Right mostKept (8 * key) rows before
+  right = algorithm2-right mostKept (8 * key) (omega (arith, sizes, O .holds .most)) rows (O .holds .below)
+
+  pub all-below : Below (2 ^ (8 * key)) (rows ++ (row ∷ []))
+  all-below = below-append (2 ^ (8 * key)) rows (row ∷ []) (O .holds .below) (O .small, tt)
+
+  pub next : Right mostKept (8 * key) (rows ++ (row ∷ [])) (step mostKept row before)
+  next = step-right mostKept (8 * key) (omega (arith, sizes, O .holds .most)) rows row all-below before right
+
+  -- the pass in bytes is the algorithm's
+  pub pass-is : pass mostKept (before .slots) (row * 2 ^ mostKept) ≡ p
+  pass-is = unfold passIn in ap (λ (ss : List ℕ). pass mostKept ss (row * 2 ^ mostKept)) (sym (O .holds .slots))
+
+  pub ranked : length (before .uses) ≡ rank rows
+  ranked = ap length (right .uses) ∙ length-uses rows
+
+  pub fits : Takes key (length rows) (rank rows) (length state)
+  fits = record {
+    low = omega (arith, O .holds .some);
+    high = narrow;
+    arrival = O .more;
+    place = omega (arith, sizes, O .holds .most, rank-most (8 * key) rows (O .holds .below));
+    whole = O .holds .room;
+  }
+
+  pub outcome : taken key p (length rows) (rank rows) state ≡ absorption key row (length rows) (rank rows) state
+  outcome = absorbed-so key row (length rows) (rank rows) state (takes-when key (length rows) (rank rows) (length state) fits)
+
+  pub longer : length (rows ++ (row ∷ [])) ≡ suc (length rows)
+  longer = length-append rows (row ∷ []) ∙ add-one (length rows)
+
+  pub slots-next : algorithm2 mostKept (8 * key) (rows ++ (row ∷ [])) .slots ≡ step mostKept row before .slots
+  slots-next = ap (λ (s : Working). s .slots) (algorithm2-snoc mostKept (8 * key) rows row)
+
+  pub test : ltb (p .place) (8 * key) ≡ not (spans (keptRows rows) row)
+  test =
+      ap₂ (λ (q : Pass) (n : ℕ). ltb (q .place) n) (sym pass-is) (sym (right .size))
+      ∙ step-test mostKept (8 * key) (omega (arith, sizes, O .holds .most)) rows row all-below before right
+
+  -- where it stops, what is left has no more digits than a row and a tail
+  pub vector-lt : p .place < 8 * key → p .vector < 2 ^ (mostKept + 8 * key)
+  vector-lt h =
+      let size : length (before .slots) ≡ 8 * key = right .size in
+      let stop : pass mostKept (before .slots) (row * 2 ^ mostKept) .place < length (before .slots) = omega (arith, ap (λ (q : Pass). q .place) pass-is, size, h) in
+      let kept-room : length (keptRows rows) ≤ mostKept = omega (arith, sizes, O .holds .most, rank-room (8 * key) rows (O .holds .below)) in
+      omega (
+        arith,
+        rows-lt mostKept (keptRows rows) (before .slots) kept-room (right .slots) row (rw size (O .small)) stop,
+        ap (λ (q : Pass). q .vector) pass-is,
+        ap (λ (n : ℕ). 2 ^ (mostKept + n)) size,
+      )

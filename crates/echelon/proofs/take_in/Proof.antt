@@ -1,0 +1,135 @@
+-- `take_in` meets its contract: the vector that the pass leaves is kept or counted, and nothing is written where no place is left.
+-- Assumes nothing.
+use native.Mathlib.Omega.{arith}
+use borrow.Author.Needs.{needs}
+use mathlib.Core.Path.{_≡_, sym, ap, ap₂, _∙_}
+use Prim.Native.Nat.{ℕ, _+_}
+use lib.ListN.{length, length-take, length-drop}
+use Rattle.octets.specs.Octets.{number}
+use Rattle.echelon.specs.Algorithm2.{Pass}
+use Rattle.echelon.specs.State.{mostKept, tailBytes, Absorption, keptState, passIn}
+use Rattle.echelon.proofs.Places.{sizes}
+use Rattle.echelon.proofs.Absorbing.{Takes, takes-so, taken-other, taken-kept, taken-full, tail-digits, counted-same, kept-same}
+use Rattle.echelon.proofs.take_in.Statement.{statement}
+use Rattle.echelon.proofs.take_in.Tie as tie
+
+abbrev Fit : (c : tie.Start) → Type 0
+Fit c = Takes (length (c .args .row .now)) (c .args .m) (c .args .r) (length (c .args .state .now))
+
+fit : (c : tie.Start) → Fit c
+fit c = takes-so (length (c .args .row .now)) (c .args .m) (c .args .r) (length (c .args .state .now)) (c .pre .1)
+
+attempt-requires : tie.Need-attempt-requires
+attempt-requires c κs =
+    let S = c .before .before .before .before .before in
+    (S .pre .0, fit S .high, omega (arith, sizes, fit S .whole))
+
+mul-if1 : tie.Need-mul-if1
+mul-if1 c = omega (arith, fit (c .before .before .before .before .before .before .before .before) .high)
+
+sub-count : tie.Need-sub-count
+sub-count c = search needs
+
+part-count-start : tie.Need-part-count-start
+part-count-start c = search needs
+
+part-count-end : tie.Need-part-count-end
+part-count-end c = search needs
+
+count-requires : tie.Need-count-requires
+count-requires c κs =
+    let S = c .before .before .before .before .before .before .before .before .before .before .before .before in
+    (simp (length-take, length-drop) (omega (arith, c .before .before .before .before .before .before .attempt .kept .0, S .pre .0)), fit S .arrival, fit S .place, fit S .whole)
+
+same-length : tie.Need-same-length
+same-length c = search needs
+
+same-length-2 : tie.Need-same-length-2
+same-length-2 c = search needs
+
+returns : tie.Need-returns
+returns c =
+    let S = c .before .before .before .before .before .before .before .before .before .before .before .before .before .before .before in
+    let A = S .args in
+    let a = c .before .before .before .before .before .before .before .before .before .attempt in
+    let p : Pass = passIn (length (A .row .now)) (number (A .row .now)) (A .state .now) in
+    let e = taken-other (length (A .row .now)) p (A .m) (A .r) (A .state .now) (rw (a .ensures .0) at (c .before .before .before .before .before .before .if1 .taken)) in (
+      sym (ap (λ (o : Absorption). o .answer) e),
+      c .before .before .count .ensures
+          ∙ counted-same _ (p .vector) (A .m) (A .r) (A .state .now)
+          (tail-digits (length (A .row .now)) (length (A .work .now)) (p .vector) (A .r) (a .last .0) (S .pre .0) (a .ensures .1) (fit S .place))
+          ∙ sym (ap (λ (o : Absorption). o .state) e),
+    )
+
+keep-requires : tie.Need-keep-requires
+unfolding mostKept
+keep-requires c κs =
+    let S = c .before .before .before .before .before .before .before .before .before .before .before .before in
+    let n : length (c .before .before .before .before .before .before .attempt .last .0) ≡ length (S .args .row .now) + tailBytes = c .before .before .before .before .before .before .attempt .kept .0 ∙ S .pre .0 in
+    record {
+      wide = omega (arith, n, fit S .low);
+      narrow = omega (arith, n, sizes, fit S .high);
+      slot = omega (arith, n, c .before .before .before .if1 .left);
+      arrival = fit S .arrival;
+      place = c .before .before .if2 .taken;
+      whole = fit S .whole;
+    }
+
+same-length-3 : tie.Need-same-length-3
+same-length-3 c = search needs
+
+same-length-4 : tie.Need-same-length-4
+same-length-4 c = search needs
+
+returns-2 : tie.Need-returns-2
+unfolding mostKept
+returns-2 c =
+    let S = c .before .before .before .before .before .before .before .before .before .before .before .before .before .before .before .before .before in
+    let A = S .args in
+    let a = c .before .before .before .before .before .before .before .before .before .before .before .attempt in
+    let p : Pass = passIn (length (A .row .now)) (number (A .row .now)) (A .state .now) in
+    let n : length (a .last .0) ≡ length (A .row .now) + tailBytes = a .kept .0 ∙ S .pre .0 in
+    let e = taken-kept (length (A .row .now)) p (A .m) (A .r) (A .state .now) (rw (a .ensures .0) at (c .before .before .before .before .before .before .before .before .if1 .left)) (c .before .before .before .before .before .before .before .if2 .taken) in (
+      sym (ap (λ (o : Absorption). o .answer) e),
+      c .before .before .before .before .keep .ensures
+          ∙ ap₂ (λ (w t : ℕ). keptState w t (number (a .last .0)) (A .m) (A .r) (A .state .now)) n (a .ensures .0)
+          ∙ kept-same (length (A .row .now) + tailBytes) (p .place) (p .vector) (A .m) (A .r) (a .last .0) (A .state .now) (a .ensures .1)
+          ∙ sym (ap (λ (o : Absorption). o .state) e),
+    )
+
+same-length-5 : tie.Need-same-length-5
+same-length-5 c = search needs
+
+same-length-6 : tie.Need-same-length-6
+same-length-6 c = search needs
+
+returns-3 : tie.Need-returns-3
+unfolding mostKept
+returns-3 c =
+    let S = c .before .before .before .before .before .before .before .before .before .before in
+    let A = S .args in
+    let a = c .before .before .before .before .attempt in
+    let p : Pass = passIn (length (A .row .now)) (number (A .row .now)) (A .state .now) in
+    let e = taken-full (length (A .row .now)) p (A .m) (A .r) (A .state .now) (rw (a .ensures .0) at (c .before .if1 .left)) (c .if2 .left) in
+    (sym (ap (λ (o : Absorption). o .answer) e), sym (ap (λ (o : Absorption). o .state) e))
+
+pub take-in-spec : {M : Type 1} → statement M
+take-in-spec =
+    tie.close
+    (tie.spec
+    attempt-requires
+    mul-if1
+    sub-count
+    part-count-start
+    part-count-end
+    count-requires
+    same-length
+    same-length-2
+    returns
+    keep-requires
+    same-length-3
+    same-length-4
+    returns-2
+    same-length-5
+    same-length-6
+    returns-3)

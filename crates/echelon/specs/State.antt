@@ -1,0 +1,85 @@
+-- The state of an elimination in one buffer, and what a row makes of it: `absorb` of the code. From byte 0 on stand the slots, each a row
+-- and a tail of 40 bytes; then the uses of each kept place, two bytes each; then a byte for each arrival, 1 if the row was kept.
+use Prim.Native.Nat.{ℕ, _+_, _-_, _*_, _^_, _≤_, _<_}
+use mathlib.Core.Bool.{Bool, cond, _&&_}
+use mathlib.Core.List.{List, [], _∷_}
+use lib.Dec.{leb, ltb}
+use lib.ListN.{length, take, drop}
+use Rattle.space.specs.Space.{_⊕_}
+use Rattle.octets.specs.Octets.{bytes, numbers, flat, lay}
+use Rattle.reading.proofs.OneMore.{raised}
+use Rattle.echelon.specs.declared.Absorbed.{Absorbed}
+use Rattle.echelon.specs.declared.Absorbed.the-variants.{Kept, Other, Misfit}
+use Rattle.echelon.specs.Algorithm2.{digits, Pass, pass}
+use Rattle.echelon.specs.Reducing.{slotsOf}
+
+-- A row of 40 bytes has 320 digits, so no more rows are kept, and a tail of 40 bytes names them.
+unfoldable pub mostKept : ℕ
+mostKept = 320
+
+unfoldable pub tailBytes : ℕ
+tailBytes = 40
+
+-- Where the uses and the flags begin, and the state ends.
+unfoldable pub usesAt : ℕ
+usesAt = 25600
+
+unfoldable pub flagsAt : ℕ
+flagsAt = 26240
+
+unfoldable pub stateBytes : ℕ
+stateBytes = 26752
+
+-- The slots of rows of so many bytes; the uses of the first r kept places; the flags of the first m arrivals.
+unfoldable pub slotsIn : ℕ → List ℕ → List ℕ
+slotsIn key state = slotsOf key (key + tailBytes) state
+
+unfoldable pub usesIn : ℕ → List ℕ → List ℕ
+usesIn r state = numbers 2 r (drop usesAt state)
+
+unfoldable pub flagsIn : ℕ → List ℕ → List ℕ
+flagsIn m state = take m (drop flagsAt state)
+
+-- The pass of a row over the slots, its tail empty.
+unfoldable pub passIn : ℕ → ℕ → List ℕ → Pass
+passIn key row state = pass mostKept (slotsIn key state) (row * 2 ^ mostKept)
+
+-- Kept as arrival m at place r: the vector, with the digit worth 2^r, at slot t; no uses yet; flag 1.
+unfoldable pub keptState : ℕ → ℕ → ℕ → ℕ → ℕ → List ℕ → List ℕ
+keptState w t vector m r state =
+    lay (flagsAt + m) (1 ∷ []) (lay (usesAt + 2 * r) (bytes 2 0) (lay (t * w) (bytes w (vector ⊕ 2 ^ r)) state))
+
+-- What keeping asks of a vector of w bytes: a slot, an arrival and a kept place within a state of so many bytes.
+pub record KeepRoom (w t m r room : ℕ) : Type 0 where
+  pub wide : tailBytes < w
+  pub narrow : w ≤ 80
+  pub slot : t < 8 * (w - tailBytes)
+  pub arrival : m < 512
+  pub place : r < mostKept
+  pub whole : stateBytes ≤ room
+
+-- Not kept: one use more for each of the r kept places that the vector's lowest digits name; flag 0. Uses count modulo 65,536.
+unfoldable pub countedState : ℕ → ℕ → ℕ → List ℕ → List ℕ
+countedState vector m r state = lay (flagsAt + m) (0 ∷ []) (lay usesAt (flat 2 (raised (digits r vector) (usesIn r state))) state)
+
+-- The answer, and the state afterwards.
+pub record Absorption : Type 0 where
+  pub answer : Absorbed
+  pub state : List ℕ
+
+abbrev pub gives : Absorbed → List ℕ → Absorption
+gives answer state = record { answer = answer; state = state }
+
+-- Where the pass stopped the row is kept, if there is a place for it; else its uses are counted.
+unfoldable pub taken : ℕ → Pass → ℕ → ℕ → List ℕ → Absorption
+taken key p m r state =
+    cond (ltb (p .place) (8 * key))
+    (cond (ltb r mostKept) (gives Kept (keptState (key + tailBytes) (p .place) (p .vector) m r state)) (gives Misfit state))
+    (gives Other (countedState (p .vector) m r state))
+
+-- "rows of 9 to 40 bytes, at most 512 of them": whether a row, an arrival and a kept place fit a state of so many bytes.
+unfoldable pub takes : ℕ → ℕ → ℕ → ℕ → Bool
+takes key m r room = (leb 9 key && leb key 40) && ((ltb m 512 && leb r mostKept) && leb stateBytes room)
+
+unfoldable pub absorption : ℕ → ℕ → ℕ → ℕ → List ℕ → Absorption
+absorption key row m r state = cond (takes key m r (length state)) (taken key (passIn key row state) m r state) (gives Misfit state)

@@ -1,0 +1,67 @@
+-- Laying, answer by answer.
+-- Assumes nothing.
+use mathlib.Core.Path.{_≡_}
+use Prim.Native.Nat.{ℕ, _+_, _*_, _≤_, _<_}
+use mathlib.Core.Bool.{true, false}
+use mathlib.Core.List.{List, _++_}
+use lib.ListN.{length, take, drop}
+use borrow.Author.Tests.{lt-ltb, le-ltb, eq-eqb}
+use Rattle.octets.specs.Octets.{bytes}
+use Rattle.octets.proofs.Lay.{part-lay}
+use Rattle.rows.specs.Rows.{shape, rowBytes}
+use Rattle.draw.specs.Draw.{constraint}
+use Rattle.frame.specs.declared.Laid.the-variants.{Row, Shape, Refused, OtherPage, Full, Room}
+use Rattle.frame.specs.declared.Frame.the-variants as frames
+use Rattle.frame.specs.Reading.{reading}
+use Rattle.frame.specs.Numbers.{numbersOf, payloadOf}
+use Rattle.frame.specs.Laying.{samePage, placing, laid, frameRow, listAfter}
+use Rattle.frame.proofs.Good.{isGood}
+
+-- ---- the place
+
+module _ (l arrival : ℕ) (list : List ℕ) where
+  pub placing-full : 511 < arrival → placing l arrival list ≡ Full
+  unfolding placing
+  placing-full h = rw (lt-ltb 511 arrival h)
+
+  module _ (few : arrival ≤ 511) where
+    pub placing-room : length list < rowBytes l * arrival + rowBytes l → placing l arrival list ≡ Room
+    unfolding placing
+    placing-room h = rw (le-ltb 511 arrival few, lt-ltb _ _ h)
+
+    pub placing-row : rowBytes l * arrival + rowBytes l ≤ length list → placing l arrival list ≡ Row
+    unfolding placing
+    placing-row h = rw (le-ltb 511 arrival few, le-ltb _ _ h)
+
+-- ---- the order
+
+module _ (frame : List ℕ) (page n l arrival : ℕ) (list : List ℕ) where
+  pub laid-shape : shape n l ≡ false → laid frame page n l arrival list ≡ Shape
+  unfolding laid
+  laid-shape s = rw s
+
+  module _ (s : shape n l ≡ true) where
+    pub laid-refused : isGood (reading frame) ≡ false → laid frame page n l arrival list ≡ Refused (reading frame)
+    unfolding laid
+    laid-refused g = rw (s, g)
+
+    module _ (p m k seed : ℕ) (g : reading frame ≡ frames.Good p m k seed) where
+      pub laid-other : samePage (frames.Good p m k seed) page n l ≡ false → laid frame page n l arrival list ≡ OtherPage
+      unfolding laid numbersOf
+      laid-other o = rw (s, g, o)
+
+      pub laid-placing : p ≡ page → m ≡ n → k ≡ l → laid frame page n l arrival list ≡ placing l arrival list
+      unfolding laid samePage numbersOf
+      laid-placing e f h = rw (s, g, eq-eqb p page e, eq-eqb m n f, eq-eqb k l h)
+
+-- ---- the row
+
+pub row-is : (frame : List ℕ) (p n l seed : ℕ) → reading frame ≡ frames.Good p n l seed → frameRow frame ≡ bytes 8 (constraint n seed) ++ payloadOf frame
+unfolding frameRow numbersOf
+row-is frame p n l seed g = rw g
+
+-- a row that was laid is there
+pub laid-there : (l arrival : ℕ) (row list : List ℕ) → length row ≡ rowBytes l → rowBytes l * arrival ≤ length list
+    → take (rowBytes l) (drop (rowBytes l * arrival) (listAfter Row (rowBytes l * arrival) row list)) ≡ row
+unfolding listAfter
+laid-there l arrival row list e h = part-lay (rowBytes l * arrival) (rowBytes l) row list e h

@@ -1,0 +1,119 @@
+use mathlib.Core.Path.{_≡_, refl, sym, ap, _∙_}
+use Prim.Native.Nat.{_+_, _-_, _*_, _≤_}
+use native.Mathlib.Omega.{arith}
+use native.Mathlib.Nat.{mul-le-mul}
+use mathlib.Core.List.{_++_}
+use lib.ListN.{length, length-append}
+use denote.Ref.{now}
+use borrow.Author.Needs.{needs}
+use Rattle.octets.specs.Octets.{bytes}
+use Rattle.octets.proofs.Numbers.{length-bytes}
+use Rattle.rows.specs.Rows.{rowBytes}
+use Rattle.draw.specs.Draw.{constraint}
+use Rattle.frame.specs.Numbers.{payloadOf}
+use Rattle.frame.specs.Laying.{listAfter}
+use Rattle.frame.proofs.Parts.{part-long, back}
+use Rattle.frame.proofs.Draws.{draws-it, draws-one}
+use Rattle.frame.proofs.Laying.{placing-full, placing-room, placing-row}
+use Rattle.frame.proofs.lay_row.Statement.{statement}
+use Rattle.frame.proofs.lay_row.Tie as tie
+
+returns : tie.Need-returns
+unfolding listAfter
+returns c =
+    let a = c .before .before .before .args in
+    (sym (placing-full (a .l) (a .arrival .0) (now (a .list)) (c .if1 .taken)), refl)
+
+add-size : tie.Need-add-size
+add-size c = search needs
+
+mul-start : tie.Need-mul-start
+mul-start c =
+    let a = c .before .before .before .args in
+    let wide : 8 + a .l ≤ 263 = omega arith in
+    let few : a .arrival .0 ≤ 511 = omega arith in
+    omega (arith, mul-le-mul wide few)
+
+add-end : tie.Need-add-end
+add-end c =
+    let a = c .before .before .before .args in
+    let wide : 8 + a .l ≤ 263 = omega arith in
+    let few : a .arrival .0 ≤ 511 = omega arith in
+    omega (arith, mul-le-mul wide few)
+
+returns-2 : tie.Need-returns-2
+unfolding listAfter
+returns-2 c =
+    let a = c .before .before .before .before .args in
+    (sym (placing-room (a .l) (a .arrival .0) (now (a .list)) (c .before .if1 .left) (c .if2 .taken)), refl)
+
+draw-requires : tie.Need-draw-requires
+draw-requires c κs = search needs
+
+enum-known-drawn : tie.Need-enum-known-drawn
+enum-known-drawn c = search needs
+
+enum-told : tie.Need-enum-told
+enum-told c = search needs
+
+returns-3 : tie.Need-returns-3
+returns-3 c =
+    let start = c .before .before .before .before .before .before .before in
+    absurd (draws-one (start .args .n) (start .args .l) (start .args .seed) (start .pre .0)
+    (sym (c .before .before .draw .ensures) ∙ c .enum-told .given .1))
+
+sub-put-row : tie.Need-sub-put-row
+sub-put-row c = search needs
+
+part-put-row-start : tie.Need-part-put-row-start
+part-put-row-start c = search needs
+
+part-put-row-end : tie.Need-part-put-row-end
+part-put-row-end c = search needs
+
+payload-requires : tie.Need-payload-requires
+payload-requires c κs = search needs
+
+put-row-requires : tie.Need-put-row-requires
+put-row-requires c κs =
+    let start = c .before .before .before .before .before .before .before .before .before .before in
+    let a = start .args in
+    let at = rowBytes (a .l) * a .arrival .0 in
+    part-long at (at + rowBytes (a .l) - at) (now (a .list)) (omega arith) ∙ omega (arith, ap length (c .payload .ensures .0), start .pre .1)
+
+same-length : tie.Need-same-length
+same-length c = search needs
+
+returns-4 : tie.Need-returns-4
+unfolding listAfter
+returns-4 c =
+    let start = c .before .before .before .before .before .before .before .before .before .before .before .before .before in
+    let a = start .args in
+    let drawn = draws-it (a .n) (a .l) (a .seed) (start .pre .0) _ (sym (c .before .before .before .before .before .before .before .before .draw .ensures) ∙ c .before .before .before .before .before .before .drawn .given .1) in
+    let head = bytes 8 (constraint (a .n) (a .seed)) in
+    let row = head ++ payloadOf (now (a .frame)) in
+    let at = rowBytes (a .l) * a .arrival .0 in
+    let long : length row ≡ at + rowBytes (a .l) - at = length-append head (payloadOf (now (a .frame))) ∙ omega (arith, length-bytes 8 (constraint (a .n) (a .seed)), start .pre .1) in
+    let put : c .before .before .put-row .last .0 ≡ row = rw (drawn, c .before .before .before .payload .ensures .0) at (c .before .before .put-row .ensures) in
+    (sym (placing-row (a .l) (a .arrival .0) (now (a .list)) (c .before .before .before .before .before .before .before .before .before .before .if1 .left) (c .before .before .before .before .before .before .before .before .before .if2 .left)), rw put (back at _ row (now (a .list)) long))
+
+pub lay-row-spec : {M : Type 1} → statement M
+lay-row-spec =
+    tie.close
+    (tie.spec
+    returns
+    add-size
+    mul-start
+    add-end
+    returns-2
+    draw-requires
+    enum-known-drawn
+    enum-told
+    returns-3
+    sub-put-row
+    part-put-row-start
+    part-put-row-end
+    payload-requires
+    put-row-requires
+    same-length
+    returns-4)

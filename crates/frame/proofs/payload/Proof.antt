@@ -1,0 +1,67 @@
+use mathlib.Core.Path.{_≡_, sym, ap, _∙_}
+use Prim.Native.Nat.{ℕ, _+_, _-_}
+use native.Mathlib.Omega.{arith}
+use native.Mathlib.Nat.{zero-add, le-of-eq}
+use denote.Ref.{now}
+use borrow.Author.Needs.{needs}
+use Rattle.frame.specs.Numbers.{Numbers, numbersOf, payloadOf}
+use Rattle.frame.proofs.Good.{refused-is, good-long}
+use Rattle.frame.proofs.payload.Statement.{statement}
+use Rattle.frame.proofs.payload.Tie as tie
+
+read-requires : tie.Need-read-requires
+read-requires c κs = search needs
+
+enum-known-found : tie.Need-enum-known-found
+enum-known-found c = search needs
+
+slice-aggregate-result : tie.Need-slice-aggregate-result
+slice-aggregate-result c = search needs
+
+returns : tie.Need-returns
+unfolding payloadOf
+returns c =
+    let called = c .before .before .read in
+    let at = c .before .before .before .before .args .frame .ptr in
+    let none = ap numbersOf (sym (called .ensures)) ∙ refused-is (called .result) (c .before .match .keys2) .1 in
+    (rw none, ap (λ (k : ℕ). (at .0, k)) (sym (ap (λ (v : Numbers). v .offset + at .1) none ∙ zero-add (at .1))))
+
+cast-end : tie.Need-cast-end
+cast-end c = search needs
+
+add-end : tie.Need-add-end
+add-end c = search needs
+
+sub-result : tie.Need-sub-result
+sub-result c = search needs
+
+part-result-start : tie.Need-part-result-start
+part-result-start c = search needs
+
+part-result-end : tie.Need-part-result-end
+part-result-end c =
+    let l = c .before .found .given .0 .1 .1 .0 in
+    let frame = now (c .before .before .before .before .before .args .frame) in
+    le-of-eq (sym (good-long frame _ _ l _ (sym (c .before .before .before .read .ensures) ∙ c .before .found .given .1)))
+
+returns-2 : tie.Need-returns-2
+unfolding payloadOf numbersOf
+returns-2 c =
+    let e = sym (c .before .before .before .before .read .ensures) ∙ c .before .before .found .given .1 in
+    let size : 22 + c .before .before .found .given .0 .1 .1 .0 - 22 ≡ c .before .before .found .given .0 .1 .1 .0 = omega arith in
+    (rw (e, size), rw e)
+
+pub payload-spec : {M : Type 1} → statement M
+payload-spec =
+    tie.close
+    (tie.spec
+    read-requires
+    enum-known-found
+    slice-aggregate-result
+    returns
+    cast-end
+    add-end
+    sub-result
+    part-result-start
+    part-result-end
+    returns-2)

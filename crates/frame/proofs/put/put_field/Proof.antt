@@ -1,0 +1,60 @@
+use mathlib.Core.Path.{sym}
+use native.Mathlib.Omega.{arith}
+use denote.Ref.{now}
+use borrow.Author.Needs.{needs}
+use Rattle.octets.specs.Octets.{bytes}
+use Rattle.octets.proofs.Numbers.{length-bytes}
+use Rattle.frame.specs.Layout.{mark, fieldBytes}
+use Rattle.frame.proofs.Parts.{part-long, first-filled, rest-filled, rest-long}
+use Rattle.frame.proofs.Lengths.{length-mark}
+use Rattle.frame.proofs.put.put_field.Statement.{statement}
+use Rattle.frame.proofs.put.put_field.Tie as tie
+
+slice-relend-prefix-put-mark : tie.Need-slice-relend-prefix-put-mark
+slice-relend-prefix-put-mark c = search needs
+
+slice-aggregate-put-mark : tie.Need-slice-aggregate-put-mark
+slice-aggregate-put-mark c = sym (part-long 0 3 (now (c .before .before .args .into)) (omega arith))
+
+put-mark-requires : tie.Need-put-mark-requires
+put-mark-requires c κs = part-long 0 3 (now (c .before .before .args .into)) (omega arith)
+
+sub-put : tie.Need-sub-put
+sub-put c = search needs
+
+part-put-start : tie.Need-part-put-start
+part-put-start c = search needs
+
+part-put-end : tie.Need-part-put-end
+part-put-end c = search needs
+
+put-requires : tie.Need-put-requires
+put-requires c κs = search needs
+
+same-length : tie.Need-same-length
+same-length c = search needs
+
+returns : tie.Need-returns
+unfolding fieldBytes
+returns c =
+    let a = c .before .before .before .before .before .before .before .before .before .args in
+    let into = now (a .into) in
+    let marked = first-filled 3 (mark (a .tag) (a .size)) into (c .before .before .before .before .before .before .put-mark .last .0) (c .before .before .before .before .before .before .put-mark .ensures) (length-mark (a .tag) (a .size)) in
+    let value = rw (rest-long 3 (a .size) (mark (a .tag) (a .size)) into _ marked (omega (arith, length-mark (a .tag) (a .size))) (omega arith)) at (c .before .before .put .ensures) in
+    let wide = length-bytes (a .size) (a .value) in
+    rw wide (rest-filled 3 (mark (a .tag) (a .size)) (bytes (a .size) (a .value)) into _ (c .before .before .put .last .0) marked (length-mark (a .tag) (a .size)) value
+    (omega (arith, wide)))
+
+pub put-field-spec : {M : Type 1} → statement M
+put-field-spec =
+    tie.close
+    (tie.spec
+    slice-relend-prefix-put-mark
+    slice-aggregate-put-mark
+    put-mark-requires
+    sub-put
+    part-put-start
+    part-put-end
+    put-requires
+    same-length
+    returns)

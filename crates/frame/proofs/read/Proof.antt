@@ -1,0 +1,32 @@
+use mathlib.Core.Path.{sym, _∙_}
+use denote.Ref.{now}
+use borrow.Author.Needs.{needs}
+use Rattle.frame.specs.Reading.{reading, first, behind}
+use Rattle.frame.proofs.Whole.{expected-ends}
+use Rattle.frame.proofs.read.Statement.{statement}
+use Rattle.frame.proofs.read.Tie as tie
+
+expect-requires : tie.Need-expect-requires
+expect-requires c κs = search needs
+
+enum-known-found : tie.Need-enum-known-found
+enum-known-found c = search needs
+
+returns : tie.Need-returns
+unfolding reading first behind
+returns c = rw (sym (c .before .before .before .expect .ensures) ∙ c .before .found .given .1)
+
+enum-told : tie.Need-enum-told
+enum-told c = search needs
+
+from-shape-requires : tie.Need-from-shape-requires
+from-shape-requires c κs = expected-ends (now (c .before .before .before .before .args .frame)) 0 1 4 (sym (c .before .before .expect .ensures) ∙ c .enum-told .given .1)
+
+returns-2 : tie.Need-returns-2
+unfolding reading first behind
+returns-2 c = rw (sym (c .before .before .before .expect .ensures) ∙ c .before .enum-told .given .1) (c .from-shape .ensures)
+
+pub read-spec : {M : Type 1} → statement M
+read-spec =
+    tie.close
+    (tie.spec expect-requires enum-known-found returns enum-told from-shape-requires returns-2)

@@ -1,0 +1,5 @@
+pub mod Layout
+pub mod Reading
+pub mod Numbers
+pub mod Writing
+pub mod Laying

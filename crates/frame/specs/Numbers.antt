@@ -1,0 +1,44 @@
+-- Document 01's number, place and values for each answer of reading a frame, and the payload that goes with it.
+use Prim.Native.Nat.{ℕ, _+_}
+use mathlib.Core.List.{List}
+use lib.ListN.{take, drop}
+use Rattle.frame.specs.declared.Frame.{Frame}
+use Rattle.frame.specs.declared.Frame.the-variants.{Good, Short, WrongTag, WrongLength, OutOfRange, Trailing}
+use Rattle.frame.specs.Layout.{shapeAt, payloadAt}
+use Rattle.frame.specs.Reading.{reading}
+
+-- What a reading gives; the payload is the part of l bytes at the offset.
+pub record Numbers : Type 0 where
+  pub number : ℕ
+  pub place : ℕ
+  pub page : ℕ
+  pub n : ℕ
+  pub l : ℕ
+  pub seed : ℕ
+  pub offset : ℕ
+
+-- "A refusal gives all other numbers as 0." Its payload is "the empty part at its start".
+abbrev pub refused : ℕ → ℕ → Numbers
+refused number place = record { number = number; place = place; page = 0; n = 0; l = 0; seed = 0; offset = 0 }
+
+-- "A good reading gives number 0, place 0, the page number, n, L and seed, and hands the payload back".
+unfoldable pub numbersOf : Frame → Numbers
+numbersOf (Good page n l seed) = record { number = 0; place = 0; page = page; n = n; l = l; seed = seed; offset = payloadAt + 3 }
+numbersOf (Short place) = refused 11 place
+numbersOf (WrongTag place) = refused 12 place
+numbersOf (WrongLength place) = refused 13 place
+numbersOf OutOfRange = refused 14 shapeAt
+numbersOf (Trailing place) = refused 15 place
+
+abbrev pub numberOf : Frame → ℕ
+numberOf f = numbersOf f .number
+
+abbrev pub placeOf : Frame → ℕ
+placeOf f = numbersOf f .place
+
+abbrev pub offsetOf : Frame → ℕ
+offsetOf f = numbersOf f .offset
+
+-- The part of a frame that a reading of it hands back.
+unfoldable pub payloadOf : List ℕ → List ℕ
+payloadOf frame = take (numbersOf (reading frame) .l) (drop (offsetOf (reading frame)) frame)

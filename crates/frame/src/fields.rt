@@ -1,0 +1,58 @@
+// One field of a frame: what stands in its place, and the answer that refuses the frame where the field is not whole.
+ghost use mathlib.Core.Path.{_≡_};
+ghost use Prim.Native.Nat.{_≤_};
+ghost use lib.ListN.{length};
+ghost use Rattle.frame.specs.Reading.{fieldOf, placed, expected};
+use crate::Frame;
+use crate::layout::MARK;
+
+// What the bytes that remain have in the place of a field.
+pub(crate) enum Field {
+    Whole,
+    Short,
+    WrongTag,
+    WrongLength,
+}
+
+// A whole field, or the answer that refuses the frame.
+pub(crate) enum Found {
+    Whole,
+    Refused(Frame),
+}
+
+fn look(rest: &[u8], tag: u8, size: u8) -> Field
+    ensures { λ r. ⌜ r ≡ fieldOf (now (rest .entry)) tag size ⌝ }
+{
+    if rest.len() < MARK {
+        return Field::Short;
+    }
+    if rest[0] != tag {
+        return Field::WrongTag;
+    }
+    if octets::get(&rest[1..MARK]) != size as u64 {
+        return Field::WrongLength;
+    }
+    if rest.len() - MARK < size as usize {
+        return Field::Short;
+    }
+    Field::Whole
+}
+
+// The one place that gives a refusal its place.
+fn at_place(field: Field, at: usize) -> Found
+    ensures { λ r. ⌜ r ≡ placed field at ⌝ }
+{
+    match field {
+        Field::Whole => Found::Whole,
+        Field::Short => Found::Refused(Frame::Short(at)),
+        Field::WrongTag => Found::Refused(Frame::WrongTag(at)),
+        Field::WrongLength => Found::Refused(Frame::WrongLength(at)),
+    }
+}
+
+pub(crate) fn expect(frame: &[u8], at: usize, tag: u8, size: u8) -> Found
+    requires { ⌜ at ≤ length (now frame) ⌝ }
+    ensures { λ r. ⌜ r ≡ expected (now (frame .entry)) at tag size ⌝ }
+{
+    at_place(look(&frame[at..], tag, size), at)
+}

@@ -1,0 +1,33 @@
+-- Each contract of this crate settles the answer and every lent byte.
+-- Assumes nothing.
+use mathlib.Core.Path.{_≡_, ap, ap₂}
+use Rattle.octets.proofs.Unique.{unique, Settles}
+use Rattle.rows.proofs.shaped.Kinds as shaped
+use Rattle.rows.proofs.shaped.Reads as shaped-contract
+use Rattle.rows.proofs.strays.Kinds as strays
+use Rattle.rows.proofs.strays.Reads as strays-contract
+use Rattle.rows.proofs.make.Kinds as make
+use Rattle.rows.proofs.make.Reads as make-contract
+use Rattle.rows.proofs.sum.Kinds as sum
+use Rattle.rows.proofs.sum.Reads as sum-contract
+use Rattle.rows.proofs.agrees.Kinds as agrees
+use Rattle.rows.proofs.agrees.Reads as agrees-contract
+
+-- A function that lends nothing and answers one value.
+answer-only : {A : Type 0} {x y : A} → x ≡ y → _≡_ {A = A × (Unit {0} × (Unit {0} × Unit {0}))} (x, (tt, (tt, tt))) (y, (tt, (tt, tt)))
+answer-only e = ap (λ answer. (answer, (tt, (tt, tt)))) e
+
+pub shaped-settled : Settles shaped.ps shaped.r shaped-contract.Post
+shaped-settled κs args = unique (λ o is. answer-only is)
+
+pub strays-settled : Settles strays.ps strays.r strays-contract.Post
+strays-settled κs args = unique (λ o is. answer-only is)
+
+pub make-settled : Settles make.ps make.r make-contract.Post
+make-settled κs args = unique (λ o is. ap₂ (λ answer room. (answer, (tt, (tt, (tt, (tt, (room, tt))))))) (is .0) (is .1))
+
+pub sum-settled : Settles sum.ps sum.r sum-contract.Post
+sum-settled κs args = unique (λ o is. ap (λ into. (tt, (into, (tt, (tt, tt))))) is)
+
+pub agrees-settled : Settles agrees.ps agrees.r agrees-contract.Post
+agrees-settled κs args = unique (λ o is. answer-only is)
