@@ -184,6 +184,10 @@ pub below-map : (m : ℕ) (f : ℕ → ℕ) → ((x : ℕ) → f x < m) → (xs 
 below-map m f h [] = tt
 below-map m f h (x ∷ xs) = (h x, below-map m f h xs)
 
+pub below-more : (k m : ℕ) → k ≤ m → (xs : List ℕ) → Below k xs → Below m xs
+below-more k m h [] b = tt
+below-more k m h (x ∷ xs) b = (omega (arith, b .0), below-more k m h xs (b .1))
+
 pub below-append : (m : ℕ) (xs ys : List ℕ) → Below m xs → Below m ys → Below m (xs ++ ys)
 below-append m [] ys h k = k
 below-append m (x ∷ xs) ys h k = (h .0, below-append m xs ys (h .1) k)
