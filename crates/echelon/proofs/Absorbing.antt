@@ -1,24 +1,16 @@
 -- What fits `absorb`, and its answer and state each way: not kept, kept, or no place left.
 -- Assumes nothing.
-use mathlib.Core.Path.{_≡_, refl, ap, ap₂, _∙_}
-use mathlib.Core.List.{List, _∷_}
-use mathlib.Core.Bool.{Bool, true, false, _&&_}
-use Prim.Native.Nat.{ℕ, zero, suc, _+_, _-_, _*_, _/_, _%_, _^_, _≤_, _<_}
-use native.Mathlib.Numerals.{add-one}
-use native.Mathlib.Omega.{arith}
-use lib.Dec.{eqb, leb, ltb}
-use lib.ListN.{length, take, drop}
-use lib.Pow.{field, mod-mod-pow}
-use lib.Seq.{take-all, drop-at}
+use mathlib.Core.Path.{_≡_}
+use mathlib.Core.List.{List}
+use mathlib.Core.Bool.{true, false, _&&_}
+use Prim.Native.Nat.{ℕ, _+_, _*_, _≤_, _<_}
+use lib.Dec.{leb, ltb}
+use lib.ListN.{length}
 use borrow.Author.Tests.{le-leb, lt-leb, leb-true, lt-ltb, le-ltb, ltb-true}
-use Rattle.octets.specs.Octets.{number, bytes}
-use Rattle.octets.proofs.Numbers.{length-bytes, bytes-⊕, bytes-mod, number-bytes-mod}
-use Rattle.octets.proofs.Digits.{bytes-append}
 use Rattle.echelon.specs.declared.Absorbed.the-variants.{Kept, Other, Misfit}
-use Rattle.echelon.specs.Algorithm2.{digits, Pass}
+use Rattle.echelon.specs.Algorithm2.{Pass}
 use Rattle.echelon.specs.State.{mostKept, tailBytes, stateBytes, gives, keptState, countedState, taken, takes, absorption, passIn}
 use Rattle.echelon.proofs.Fits.{both}
-use Rattle.echelon.proofs.Places.{sizes}
 
 -- ---- what fits
 
@@ -94,42 +86,3 @@ module _ (key row m r : ℕ) (state : List ℕ) where
   pub absorbed-not : takes key m r (length state) ≡ false → gives Misfit state ≡ absorption key row m r state
   unfolding absorption
   absorbed-not e = rw e
-
--- ---- what the bytes of a vector keep of it
-
--- the digits below a remainder's
-digits-mod : (r k x : ℕ) → r ≤ k → digits r (x % 2 ^ k) ≡ digits r x
-unfolding digits
-digits-mod zero k x h = refl
-digits-mod (suc r) zero x h = absurd (omega arith)
-digits-mod (suc r) (suc k) x h =
-    let e : k + 1 ≡ suc k = add-one k in
-    let one : x % 2 ^ suc k % 2 ≡ x % 2 = rw e at (mod-mod-pow x k 1) in
-    let half : x % 2 ^ suc k / 2 ≡ x / 2 % 2 ^ k = rw e at (field x k 1) in
-    ap₂ (λ (d y : ℕ). eqb d 1 ∷ digits r y) one half ∙ ap (λ (l : List Bool). eqb (x % 2) 1 ∷ l) (digits-mod r k (x / 2) (omega arith))
-
--- the tail of a vector names the same kept places
-pub tail-digits : (key w x r : ℕ) (work : List ℕ) → w ≡ key + tailBytes → work ≡ bytes (key + tailBytes) x → r ≤ mostKept
-    → digits r (number (take (w - key) (drop key work))) ≡ digits r x
-tail-digits key w x r work ew e h =
-    ap (digits r) (ap number (ap₂ (λ (n : ℕ) (l : List ℕ). take n (drop key l)) size (e ∙ bytes-append key tailBytes x)
-    ∙ ap (take tailBytes) (drop-at (bytes key (x / 2 ^ (8 * tailBytes))) (bytes tailBytes x) key (length-bytes key _))
-    ∙ take-all tailBytes (bytes tailBytes x) (omega (arith, length-bytes tailBytes x))) ∙ number-bytes-mod tailBytes x)
-    ∙ digits-mod r (8 * tailBytes) x (omega (arith, sizes))
-  where
-    size : w - key ≡ tailBytes
-    size = omega arith
-
-pub counted-same : (x y m r : ℕ) (state : List ℕ) → digits r x ≡ digits r y → countedState x m r state ≡ countedState y m r state
-unfolding countedState
-counted-same x y m r state e = rw e
-
--- and its bytes are kept as the vector is
-pub kept-same : (w t x m r : ℕ) (work state : List ℕ) → work ≡ bytes w x → keptState w t (number work) m r state ≡ keptState w t x m r state
-unfolding keptState
-kept-same w t x m r work state e =
-    let low : bytes w (number work) ≡ bytes w x = ap (bytes w) (ap number e ∙ number-bytes-mod w x) ∙ same in
-    rw (bytes-⊕ w (number work) (2 ^ r)) (rw low (rw (← bytes-⊕ w x (2 ^ r))))
-  where
-    same : bytes w (x % 2 ^ (8 * w)) ≡ bytes w x
-    same = let z : 0 + w ≡ w = omega arith in rw z at (bytes-mod w 0 x)

@@ -19,7 +19,8 @@ use Rattle.echelon.proofs.Digits.{Top, top-⊕}
 use Rattle.echelon.proofs.Passes.{pass-move}
 use Rattle.echelon.proofs.Stops.{pass-stop, pass-test}
 use Rattle.echelon.proofs.Stands.{Stand, key-⊕, key-low, stand-move, stand-test, stand-keep}
-use Rattle.echelon.proofs.Lifted.{length-digits, named-digits, tail-⊕, tail-low, tail-shl, key-shl, lifted, lifted-snoc, lifted-keys, lifted-named}
+use Rattle.echelon.proofs.Tails.{length-digits, named-digits, tail-⊕, tail-low, tail-shl, key-shl}
+use Rattle.echelon.proofs.Lifted.{lifted, lifted-snoc, lifted-keys, lifted-named}
 
 abbrev pub Rows : ℕ → List ℕ → List ℕ → Type 0
 Rows t ks ss = Stand t (lifted t 0 ks) ss

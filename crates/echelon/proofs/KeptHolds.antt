@@ -4,9 +4,8 @@ use mathlib.Core.Path.{_≡_, refl, sym, ap, ap₂, _∙_}
 use mathlib.Core.Bool.{true, false, not}
 use mathlib.Core.List.{List, [], _∷_, _++_, map}
 use Prim.Native.Nat.{ℕ, suc, _+_, _*_, _^_, _≤_, _<_}
-use native.Mathlib.Numerals.{add-one}
 use native.Mathlib.Omega.{arith}
-use lib.ListN.{length, set, length-append}
+use lib.ListN.{length, set}
 use lib.Pow.{pow-lt}
 use borrow.Author.Tests.{ltb-true}
 use Rattle.space.specs.Space.{_⊕_, spans}
@@ -16,13 +15,14 @@ use Rattle.octets.specs.Octets.{bytes, lay}
 use Rattle.octets.proofs.Numbers.{length-bytes}
 use Rattle.octets.proofs.Lay.{length-lay}
 use Rattle.reading.specs.Reading.{kept, keptRows, rank, uses}
-use Rattle.reading.proofs.OneMore.{kept-snoc, keptRows-snoc}
+use Rattle.reading.proofs.OneMore.{kept-snoc}
 use Rattle.echelon.specs.Algorithm2.{Pass, Working, keeping, step}
 use Rattle.echelon.specs.State.{mostKept, tailBytes, usesAt, flagsAt, usesIn, flagsIn, keptState}
 use Rattle.echelon.specs.Holds.{Holds, flagOf}
 use Rattle.echelon.proofs.Model.{rank-most, step-kept}
 use Rattle.echelon.proofs.Places.{sizes, slot-end}
 use Rattle.echelon.proofs.Offers.{Offer, key, before, p, narrow, right, all-below, next, pass-is, ranked, longer, slots-next, test, vector-lt}
+use Rattle.echelon.proofs.Ranks.{rank-kept}
 use Rattle.echelon.proofs.Written.{slots-stay, uses-below, uses-above, flags-stay, flags-more, slots-more, uses-more}
 
 module _ {l : ℕ} {rows : List ℕ} {row : ℕ} {state : List ℕ} (O : Offer l rows row state) (e : spans (keptRows rows) row ≡ false) where
@@ -34,11 +34,8 @@ module _ {l : ℕ} {rows : List ℕ} {row : ℕ} {state : List ℕ} (O : Offer l
   pub stops : p O .place < 8 * key O
   stops = ltb-true (p O .place) (8 * key O) (test O ∙ ap not e)
 
-  pub one-more : rank (rows ++ (row ∷ [])) ≡ suc (rank rows)
-  unfolding rank
-  one-more =
-      let more : keptRows (rows ++ (row ∷ [])) ≡ keptRows rows ++ (row ∷ []) = keptRows-snoc rows row ∙ rw e in
-      ap length more ∙ length-append (keptRows rows) (row ∷ []) ∙ add-one (length (keptRows rows))
+  one-more : rank (rows ++ (row ∷ [])) ≡ suc (rank rows)
+  one-more = rank-kept rows row e
 
   pub place-left : rank rows < mostKept
   place-left = omega (arith, sizes, one-more, rank-most (8 * key O) (rows ++ (row ∷ [])) (all-below O), O .holds .most)

@@ -3,7 +3,7 @@
 use mathlib.Core.Path.{_≡_, refl, sym, ap, _∙_}
 use mathlib.Core.List.{List, [], _∷_, _++_}
 use Prim.Native.Nat.{ℕ, zero, suc, _+_, _-_, _*_, _/_, _%_, _^_, _≤_, _<_}
-use native.Mathlib.Nat.{mod-lt, zero-lt-suc, zero-mul, zero-add, one-mul, add-zero, mod-eq-of-lt, lt-of-lt-of-le}
+use native.Mathlib.Nat.{mod-lt, zero-lt-suc, zero-mul, zero-add, add-zero, mod-eq-of-lt, lt-of-lt-of-le}
 use native.Mathlib.Omega.{arith}
 use lib.Bits.{bitXor, bitOr, xor-block, xor-zero-r, xor-lt, or-shifted}
 use lib.ListN.{length, getD, set, take, drop, replicate, length-set, length-replicate}
@@ -13,6 +13,7 @@ use Rattle.space.specs.Space.{_⊕_}
 use Rattle.space.specs.Lists.{Below}
 use Rattle.octets.specs.Octets.{number, bytes, over, lay}
 use Rattle.octets.proofs.Numbers.{number-lt, bytes-number, number-append}
+use Rattle.octets.proofs.Digits.{one-shl}
 use Rattle.echelon.proofs.Digits.{bit, bit-byte}
 
 -- ---- one byte changed
@@ -63,7 +64,7 @@ module _ (v : List ℕ) (j : ℕ) (h : j < 8 * length v) (b : Below 256 v) where
   pub digit-turned : set v (byteOf v j) (bitXor (getD v (byteOf v j) 0) (1 * 2 ^ (j % 8) % 256)) ≡ bytes (length v) (number v ⊕ 2 ^ j)
   digit-turned =
       let l : 2 ^ (j % 8) < 2 ^ 8 = pow-lt (mod-lt j (zero-lt-suc 7)) in
-      let one : 1 * 2 ^ (j % 8) % 256 ≡ 2 ^ (j % 8) = rw (one-mul, mod-eq-of-lt l) in
+      let one : 1 * 2 ^ (j % 8) % 2 ^ 8 ≡ 2 ^ (j % 8) = one-shl (j % 8) 8 (mod-lt j (zero-lt-suc 7)) in
       let two : 2 ^ (j % 8) * 2 ^ (8 * (j / 8)) ≡ 2 ^ j = sym (pow-add 2 (j % 8) (8 * (j / 8))) ∙ ap (λ (x : ℕ). 2 ^ x) (omega arith) in
       let new : List ℕ = set v (byteOf v j) (bitXor (getD v (byteOf v j) 0) (2 ^ (j % 8))) in
       let n : number new ≡ number v ⊕ 2 ^ j = number-set v (byteOf v j) (2 ^ (j % 8)) (omega arith) b l ∙ rw (where-is, two) in
@@ -105,7 +106,7 @@ byte-written (y ∷ c) (suc i) x h = ap (λ (l : List ℕ). y ∷ l) (byte-writt
 
 -- ---- a row and zeros
 
-number-zeros : (n : ℕ) → number (replicate n 0) ≡ 0
+pub number-zeros : (n : ℕ) → number (replicate n 0) ≡ 0
 unfolding number
 number-zeros zero = refl
 number-zeros (suc n) = rw (zero-mul (2 ^ (8 * length {A = ℕ} (replicate n 0)))) (zero-add (number (replicate n 0)) ∙ number-zeros n)

@@ -2,7 +2,7 @@
 -- Assumes nothing.
 use mathlib.Core.Path.{_≡_, refl, sym, ap, ap₂, _∙_}
 use mathlib.Core.Bool.{true, false, not}
-use mathlib.Core.List.{List, [], _∷_, _++_, map, append-nil}
+use mathlib.Core.List.{List, [], _∷_, _++_, map}
 use Prim.Native.Nat.{ℕ, _+_, _*_, _≤_, _<_}
 use native.Mathlib.Omega.{arith}
 use lib.ListN.{length, getD, length-map}
@@ -14,7 +14,7 @@ use Rattle.octets.proofs.Runs.{length-flat}
 use Rattle.octets.proofs.Lay.{length-lay}
 use Rattle.reading.specs.Reading.{kept, keptRows, otherRows, rank, usesOf, uses}
 use Rattle.reading.proofs.Kept.{length-kept}
-use Rattle.reading.proofs.OneMore.{kept-snoc, keptRows-snoc, raised}
+use Rattle.reading.proofs.OneMore.{kept-snoc, raised}
 use Rattle.reading.proofs.Pick.{length-uses}
 use Rattle.echelon.specs.Algorithm2.{digits, Pass, Working, counting, step}
 use Rattle.echelon.specs.State.{mostKept, usesAt, flagsAt, usesIn, flagsIn, countedState}
@@ -22,6 +22,7 @@ use Rattle.echelon.specs.Holds.{Holds, flagOf}
 use Rattle.echelon.proofs.Model.{step-other}
 use Rattle.echelon.proofs.Places.{sizes}
 use Rattle.echelon.proofs.Offers.{Offer, key, before, p, narrow, right, all-below, next, pass-is, ranked, fits, longer, slots-next}
+use Rattle.echelon.proofs.Ranks.{rank-other}
 use Rattle.echelon.proofs.Written.{slots-stay, uses-above, flags-stay, flags-more, uses-anew}
 
 -- no row is used more often than there are rows
@@ -51,10 +52,7 @@ module _ {l : ℕ} {rows : List ℕ} {row : ℕ} {state : List ℕ} (O : Offer l
       ∙ sym (ap (λ (s : Working). s .uses) counting-is ∙ unfold counting in refl) ∙ next O .uses
 
   same-rank : rank (rows ++ (row ∷ [])) ≡ rank rows
-  unfolding rank
-  same-rank =
-      let same : keptRows (rows ++ (row ∷ [])) ≡ keptRows rows = keptRows-snoc rows row ∙ rw e (append-nil (keptRows rows)) in
-      ap length same
+  same-rank = rank-other rows row e
 
   long : length us ≡ rank rows
   long = ap length uses-are ∙ length-uses (rows ++ (row ∷ [])) ∙ same-rank

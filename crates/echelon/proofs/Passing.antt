@@ -1,19 +1,18 @@
 -- A pass over slots in bytes, on its way: what the loop of `sweep` holds at a place, and how it goes on from one place to another.
 -- Assumes nothing.
 use mathlib.Core.Path.{_≡_, refl, sym, ap, _∙_}
-use Prim.Native.Nat.{ℕ, zero, suc, _+_, _-_, _*_, _/_, _%_, _≤_, _<_}
+use Prim.Native.Nat.{ℕ, zero, suc, _+_, _-_, _*_, _≤_, _<_}
 use native.Mathlib.Nat.{add-zero}
 use native.Mathlib.Omega.{arith}
 use mathlib.Core.Bool.{false}
 use mathlib.Core.List.{List}
-use lib.ListN.{length, getD, drop}
+use lib.ListN.{length, drop}
 use Rattle.space.specs.Lists.{Below}
 use Rattle.octets.specs.Octets.{number, bytes, numbers}
 use Rattle.octets.proofs.Numbers.{bytes-number}
 use Rattle.octets.proofs.Runs.{length-numbers}
 use Rattle.echelon.specs.Algorithm2.{digit, Pass, later, pass}
-use Rattle.echelon.proofs.Digits.{digit-byte}
-use Rattle.echelon.proofs.Leading.{First}
+use Rattle.echelon.specs.Reducing.{Next}
 use Rattle.echelon.proofs.Turns.{turn-skip, turn-end}
 
 module _ (key w : ℕ) (slots : List ℕ) where
@@ -40,11 +39,6 @@ module _ (key w : ℕ) (slots : List ℕ) (inside : key ≤ w) where
   pub worth : (u : ℕ) → u < 8 * key → 8 * (w - key) + (length (ss key w slots) - suc u) ≡ 8 * w - suc u
   worth u h = omega (arith, length-numbers w (8 * key) slots)
 
-  pub number-digit : (v : List ℕ) (i z : ℕ) → length v ≡ w → Below 256 v → i < w → z < 8 → digit (8 * w - suc (8 * i + z)) (number v) ≡ digit (7 - z) (getD v i 0)
-  number-digit v i z l b h m =
-      let e : 8 * (length v - suc i) + (7 - z) ≡ 8 * w - suc (8 * i + z) = omega arith in
-      rw e at (digit-byte v i (7 - z) b (omega arith) (omega arith))
-
 module _ (key w : ℕ) (slots : List ℕ) (p : Pass) (work : List ℕ) (inside : key ≤ w) where
   one-on : (u : ℕ) → Passing key w slots p work u → u < 8 * key → digit (8 * w - suc u) (number work) ≡ false → Passing key w slots p work (suc u)
   unfolding later
@@ -67,16 +61,11 @@ module _ (key w : ℕ) (slots : List ℕ) (p : Pass) (work : List ℕ) (inside :
       let s : suc u + d ≡ u + suc d = omega arith in
       rw s at (passing-on d (suc u) (one-on u P (omega arith) (e u (omega arith) (omega arith))) (omega arith) (λ i l m. e i (omega arith) (omega arith)))
 
-  -- to the first set digit of a byte, or past it
-  pub passing-first : (t z : ℕ) → Passing key w slots p work t → t < 8 * key → First (getD work (t / 8) 0) (t % 8) z
-      → Passing key w slots p work (8 * (t / 8) + z)
-  passing-first t z P h F =
-      let d : ℕ = z - t % 8 in
-      let e : t + d ≡ 8 * (t / 8) + z = omega (arith, F .behind) in
-      rw e at (passing-on d t P (omega (arith, F .most))
-      (λ i l m. let s : 8 * (t / 8) + (i - 8 * (t / 8)) ≡ i = omega arith in
-      rw s at (number-digit key w slots inside work (t / 8) (i - 8 * (t / 8)) (P .long) (P .below) (omega arith) (omega (arith, F .most))
-      ∙ F .none (i - 8 * (t / 8)) (omega arith) (omega (arith, F .behind)))))
+  -- to the next set digit, or past the last place
+  pub passing-next : (t u : ℕ) → Passing key w slots p work t → Next work key t u → Passing key w slots p work u
+  passing-next t u P N =
+      let e : t + (u - t) ≡ u = omega (arith, N .behind) in
+      rw e at (passing-on (u - t) t P (omega (arith, N .behind, N .within)) (λ i l m. rw (P .long) at (N .none i l (omega (arith, N .behind)))))
 
   -- past the last
   pub passing-end : (u : ℕ) → Passing key w slots p work u → 8 * key ≤ u → (p .vector ≡ number work) × (p .place ≡ 8 * key)

@@ -11,7 +11,7 @@ use lib.Seq.{take-all}
 use Rattle.space.specs.Space.{_⊕_}
 use Rattle.octets.specs.Octets.{number, bytes, numbers, flat, over, lay}
 use Rattle.octets.proofs.Numbers.{length-bytes}
-use Rattle.octets.proofs.Lay.{over-all, length-lay}
+use Rattle.octets.proofs.Lay.{over-all, length-lay, lay-back}
 use Rattle.reading.proofs.OneMore.{raised}
 use Rattle.echelon.specs.Algorithm2.{digits, pass}
 use Rattle.echelon.specs.Reducing.{fits, slotsOf, passOf}
@@ -51,11 +51,6 @@ pass-loaded row slots =
 
 -- ---- what is written
 
--- a part that came back with as many bytes
-put-back : (a k : ℕ) (new old : List ℕ) → length new ≡ k → take a old ++ (new ++ drop k (drop a old)) ≡ lay a new old
-unfolding lay
-put-back a k new old e = rw (sym e)
-
 pub copied : (k : ℕ) (new old : List ℕ) → length new ≡ k → length old ≡ k → over (take (length old) new) old ≡ new
 copied k new old e f = ap (λ (l : List ℕ). over l old) (take-all (length old) new (omega arith)) ∙ over-all new old (e ∙ sym f)
 
@@ -68,7 +63,7 @@ kept-laid w t vector m r state new K h e =
     let slot : List ℕ = lay (t * w) (bytes w (vector ⊕ 2 ^ r)) state in
     let long : length slot ≡ length state = length-lay (t * w) (bytes w (vector ⊕ 2 ^ r)) state (rw (length-bytes w (vector ⊕ 2 ^ r)) (omega (arith, sizes, K .whole))) in
     let long2 : length (lay (usesAt + 2 * r) (bytes 2 0) slot) ≡ length slot = length-lay (usesAt + 2 * r) (bytes 2 0) slot (rw (length-bytes 2 0) (omega (arith, sizes, K .whole, K .place))) in
-    ap (λ (l : List ℕ). set (set (set l (usesAt + 2 * r) 0) (usesAt + 2 * r + 1) 0) (flagsAt + m) 1) (put-back (t * w) (t * w + w - t * w) new state n ∙ ap (λ (l : List ℕ). lay (t * w) l state) e)
+    ap (λ (l : List ℕ). set (set (set l (usesAt + 2 * r) 0) (usesAt + 2 * r + 1) 0) (flagsAt + m) 1) (lay-back (t * w) (t * w + w - t * w) new state n ∙ ap (λ (l : List ℕ). lay (t * w) l state) e)
     ∙ ap (λ (l : List ℕ). set l (flagsAt + m) 1) (pair-written slot (usesAt + 2 * r) 0 (omega (arith, sizes, K .whole, K .place)))
     ∙ byte-written (lay (usesAt + 2 * r) (bytes 2 0) slot) (flagsAt + m) 1 (omega (arith, sizes, K .whole, K .arrival))
 
@@ -79,7 +74,7 @@ unfolding countedState usesIn
 counted-laid vector m r state new hm hr hs n e =
     let k : usesAt + 2 * r - usesAt ≡ 2 * r = omega arith in
     let laid : take usesAt state ++ (new ++ drop (usesAt + 2 * r - usesAt) (drop usesAt state)) ≡ lay usesAt new state =
-    put-back usesAt (usesAt + 2 * r - usesAt) new state (n ∙ sym k) in
+    lay-back usesAt (usesAt + 2 * r - usesAt) new state (n ∙ sym k) in
     let long : length (lay usesAt new state) ≡ length state = length-lay usesAt new state (omega (arith, sizes)) in
     ap (λ (l : List ℕ). set l (flagsAt + m) 0) laid
     ∙ byte-written (lay usesAt new state) (flagsAt + m) 0 (omega (arith, sizes))

@@ -20,7 +20,7 @@ use Rattle.echelon.proofs.Digits.{Top}
 use Rattle.echelon.proofs.Passes.{pass-move}
 use Rattle.echelon.proofs.Stops.{pass-stop, pass-test}
 use Rattle.echelon.proofs.Stands.{Stand, key, key-⊕, key-low, stand-move, stand-test, stand-keep}
-use Rattle.echelon.proofs.Lifted.{tail, tail-low, tail-shl, key-shl}
+use Rattle.echelon.proofs.Tails.{tail, tail-low, tail-shl, key-shl}
 
 constraint-key : (l x : ℕ) → key (8 * l) x ≡ constraint l x
 unfolding key constraint

@@ -1,26 +1,13 @@
--- Numbers read from a run of bytes at one place.
+-- Parts of a run of bytes, and the numbers read from its front.
 -- Assumes nothing.
-use mathlib.Core.Path.{_≡_, refl, sym, ap, _∙_}
+use mathlib.Core.Path.{_≡_, refl, sym, ap}
 use Prim.Native.Nat.{ℕ, zero, suc, _+_, _-_, _*_, _≤_, _<_}
-use native.Mathlib.Nat.{zero-mul, mul-le-mul-right, suc-mul}
+use native.Mathlib.Nat.{mul-le-mul-right, suc-mul}
 use native.Mathlib.Omega.{arith}
 use mathlib.Core.List.{List, [], _∷_}
-use lib.ListN.{length, getD, take, drop, length-drop}
-use lib.Seq.{drop-drop, take-take, take-nil, length-take-le}
-use Rattle.space.specs.Lists.{Below}
+use lib.ListN.{length, take, drop, length-drop}
+use lib.Seq.{take-take, take-nil, length-take-le}
 use Rattle.octets.specs.Octets.{number, numbers}
-
-pub bytes-known : (xs : List ℕ) → ((j : ℕ) → getD xs j 0 < 256) → Below 256 xs
-bytes-known [] h = tt
-bytes-known (x ∷ xs) h = (h 0, bytes-known xs (λ j. h (suc j)))
-
-pub numbers-at : (w n j : ℕ) (bs : List ℕ) → j < n → getD (numbers w n bs) j 0 ≡ number (take w (drop (j * w) bs))
-unfolding numbers
-numbers-at w zero j bs h = absurd (omega arith)
-numbers-at w (suc n) zero bs h = rw zero-mul
-numbers-at w (suc n) (suc j) bs h =
-    let e : w + j * w ≡ suc j * w = omega arith in
-    numbers-at w n j (drop w bs) (omega arith) ∙ ap (λ (l : List ℕ). number (take w l)) (drop-drop (j * w) w bs ∙ ap (λ (k : ℕ). drop k bs) e)
 
 -- one of n parts of w bytes lies within the run
 pub part-room : (w n j : ℕ) (bs : List ℕ) → n * w ≤ length bs → j < n → j * w + w ≤ length bs

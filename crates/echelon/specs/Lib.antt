@@ -2,3 +2,4 @@ pub mod Algorithm2
 pub mod Reducing
 pub mod State
 pub mod Holds
+pub mod Eliminating

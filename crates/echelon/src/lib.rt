@@ -9,7 +9,8 @@ ghost use Rattle.space.specs.Space.{_⊕_};
 ghost use Rattle.octets.specs.Octets.{number, bytes, numbers, flat, lay};
 ghost use Rattle.reading.proofs.OneMore.{raised};
 ghost use Rattle.echelon.specs.Algorithm2.{digit, digits};
-ghost use Rattle.echelon.specs.Reducing.{fits, passOf, reduceAnswer, reduceWork};
+ghost use Rattle.echelon.specs.Reducing.{fits, Next, passOf, reduceAnswer, reduceWork};
+ghost use Rattle.echelon.specs.Eliminating.{rankAfter, absorbEach, eliminates, elimination};
 ghost use Rattle.echelon.specs.State.{mostKept, tailBytes, usesAt, stateBytes, KeepRoom, passIn, keptState, countedState, taken, takes, absorption};
 
 // Where a pass over slots ended: at an empty slot, by that place; or past them all.
@@ -36,6 +37,24 @@ fn has(b: u8, place: usize) -> bool
     (b >> (7 - place)) % 2 == 1
 }
 
+// The place of the first set digit of a key at or behind t, or 8 * key.
+fn next(work: &[u8], key: usize, t: usize) -> usize
+    requires { ⌜ (t ≤ 8 * key) × (key ≤ length (now work)) × (length (now work) ≤ 4096) ⌝ }
+    ensures { λ r. ⌜ Next (now (work .entry)) key t r ⌝ }
+{
+    let end = 8 * key;
+    let mut u = t;
+    while u < end {
+        let p = u / 8;
+        let z = first(work[p], u % 8);
+        u = 8 * p + z;
+        if z < 8 {
+            return u;
+        }
+    }
+    u
+}
+
 // The pass of work over slots that fit it, and the place where it stopped, 8 * key if it went by all. After a slot is added it goes on
 // behind it, so it ends on any slots.
 fn sweep(work: &mut [u8], slots: &[u8], key: usize) -> usize
@@ -45,23 +64,16 @@ fn sweep(work: &mut [u8], slots: &[u8], key: usize) -> usize
 {
     let w = work.len();
     let end = 8 * key;
-    let mut t: usize = 0;
-    while t < end {
-        let p = t / 8;
-        let z = first(work[p], t % 8);
-        let u = 8 * p + z;
-        if z == 8 {
-            t = u;
-        } else {
-            let at = u * w;
-            let e = at + w;
-            let q = at + p;
-            if !has(slots[q], z) {
-                return u;
-            }
-            octets::add(work, &slots[at..e]);
-            t = u + 1;
+    let mut u = next(work, key, 0);
+    while u < end {
+        let at = u * w;
+        let e = at + w;
+        let q = at + u / 8;
+        if !has(slots[q], u % 8) {
+            return u;
         }
+        octets::add(work, &slots[at..e]);
+        u = next(work, key, u + 1);
     }
     end
 }
@@ -169,11 +181,13 @@ fn attempt(work: &mut [u8], row: &[u8], slots: &[u8]) -> usize
     sweep(work, slots, row.len())
 }
 
-// Keeps the vector at slot t, as arrival m and kept place r.
-fn keep(state: &mut [u8], work: &mut [u8], t: usize, m: usize, r: usize)
-    requires { ⌜ KeepRoom (length (now work)) t m r (length (now state)) ⌝ }
-    ensures { λ _. ⌜ now (state .exit) ≡ keptState (length (now (work .entry))) t (number (now (work .entry))) m r (now (state .entry)) ⌝ }
+// Keeps the vector at slot t. This is where an arrival gets a kept place.
+fn keep(state: &mut [u8], work: &mut [u8], t: usize, arrival: rows::Arrival, place: KeptPlace)
+    requires { ⌜ KeepRoom (length (now work)) t (arrival .0) (place .0) (length (now state)) ⌝ }
+    ensures { λ _. ⌜ now (state .exit) ≡ keptState (length (now (work .entry))) t (number (now (work .entry))) (arrival .0) (place .0) (now (state .entry)) ⌝ }
 {
+    let m = arrival.0;
+    let r = place.0;
     let w = work.len();
     let at = t * w;
     let e = at + w;
@@ -187,11 +201,13 @@ fn keep(state: &mut [u8], work: &mut [u8], t: usize, m: usize, r: usize)
     state[f] = 1;
 }
 
-// Counts the uses of the first r kept places that the tail names, for arrival m.
-fn count(state: &mut [u8], tail: &[u8], m: usize, r: usize)
-    requires { ⌜ (length (now tail) ≡ tailBytes) × (m < 512) × (r ≤ mostKept) × (stateBytes ≤ length (now state)) ⌝ }
-    ensures { λ _. ⌜ now (state .exit) ≡ countedState (number (now (tail .entry))) m r (now (state .entry)) ⌝ }
+// Counts a use of each kept place before this one that the tail names, and notes the arrival as not kept.
+fn count(state: &mut [u8], tail: &[u8], arrival: rows::Arrival, place: KeptPlace)
+    requires { ⌜ (length (now tail) ≡ tailBytes) × (arrival .0 < 512) × (place .0 ≤ mostKept) × (stateBytes ≤ length (now state)) ⌝ }
+    ensures { λ _. ⌜ now (state .exit) ≡ countedState (number (now (tail .entry))) (arrival .0) (place .0) (now (state .entry)) ⌝ }
 {
+    let m = arrival.0;
+    let r = place.0;
     let e = 25600 + 2 * r;
     let f = 26240 + m;
     tally(&mut state[25600..e], tail, r);
@@ -199,20 +215,27 @@ fn count(state: &mut [u8], tail: &[u8], m: usize, r: usize)
 }
 
 // Takes one row in, with work for its vector.
-fn take_in(state: &mut [u8], work: &mut [u8], row: &[u8], m: usize, r: usize) -> Absorbed
-    requires { ⌜ (length (now work) ≡ length (now row) + tailBytes) × (takes (length (now row)) m r (length (now state)) ≡ true) ⌝ }
-    ensures answer { λ a. ⌜ a ≡ taken (length (now (row .entry))) (passIn (length (now (row .entry))) (number (now (row .entry))) (now (state .entry))) m r (now (state .entry)) .answer ⌝ }
-    ensures state { λ a. ⌜ now (state .exit) ≡ taken (length (now (row .entry))) (passIn (length (now (row .entry))) (number (now (row .entry))) (now (state .entry))) m r (now (state .entry)) .state ⌝ }
+fn take_in(
+    state: &mut [u8],
+    work: &mut [u8],
+    row: &[u8],
+    arrival: rows::Arrival,
+    place: KeptPlace,
+) -> Absorbed
+    requires { ⌜ (length (now work) ≡ length (now row) + tailBytes) × (takes (length (now row)) (arrival .0) (place .0) (length (now state)) ≡ true) ⌝ }
+    ensures answer { λ a. ⌜ a ≡ taken (length (now (row .entry))) (passIn (length (now (row .entry))) (number (now (row .entry))) (now (state .entry))) (arrival .0) (place .0) (now (state .entry)) .answer ⌝ }
+    ensures state { λ a. ⌜ now (state .exit) ≡ taken (length (now (row .entry))) (passIn (length (now (row .entry))) (number (now (row .entry))) (now (state .entry))) (arrival .0) (place .0) (now (state .entry)) .state ⌝ }
 {
     let key = row.len();
     let w = work.len();
+    let r = place.0;
     let t = attempt(work, row, state);
     if 8 * key <= t {
-        count(state, &work[key..w], m, r);
+        count(state, &work[key..w], arrival, place);
         return Absorbed::Other;
     }
     if r < 320 {
-        keep(state, work, t, m, r);
+        keep(state, work, t, arrival, place);
         Absorbed::Kept
     } else {
         Absorbed::Misfit
@@ -243,14 +266,76 @@ pub fn absorb(state: &mut [u8], row: &[u8], arrival: rows::Arrival, place: KeptP
     ensures answer { λ a. ⌜ a ≡ absorption (length (now (row .entry))) (number (now (row .entry))) (arrival .0) (place .0) (now (state .entry)) .answer ⌝ }
     ensures state { λ a. ⌜ now (state .exit) ≡ absorption (length (now (row .entry))) (number (now (row .entry))) (arrival .0) (place .0) (now (state .entry)) .state ⌝ }
 {
-    let m = arrival.0;
-    let r = place.0;
     let key = row.len();
-    if taking(key, m, r, state.len()) {
+    if taking(key, arrival.0, place.0, state.len()) {
         let w = key + 40;
         let mut work = [0u8; 80];
-        take_in(state, &mut work[0..w], row, m, r)
+        take_in(state, &mut work[0..w], row, arrival, place)
     } else {
         Absorbed::Misfit
+    }
+}
+
+// The number of kept rows after a row.
+fn ranked(a: Absorbed, r: usize) -> usize
+    requires { ⌜ r < 512 ⌝ }
+    ensures { λ n. ⌜ n ≡ rankAfter a r ⌝ }
+{
+    match a {
+        Absorbed::Kept => r + 1,
+        Absorbed::Other => r,
+        Absorbed::Misfit => r,
+    }
+}
+
+// Takes in the rows of a list, one after the other, and gives how many were kept.
+fn absorb_each(state: &mut [u8], list: &[u8], key: usize) -> usize
+    requires { ⌜ (0 < key) × (length (now list) / key ≤ 512) ⌝ }
+    ensures rank { λ r. ⌜ r ≡ absorbEach key 0 (numbers key (length (now (list .entry)) / key) (now (list .entry))) (record { state = now (state .entry); rank = 0 }) .rank ⌝ }
+    ensures state { λ r. ⌜ now (state .exit) ≡ absorbEach key 0 (numbers key (length (now (list .entry)) / key) (now (list .entry))) (record { state = now (state .entry); rank = 0 }) .state ⌝ }
+{
+    let m = list.len() / key;
+    let mut r: usize = 0;
+    let mut i: usize = 0;
+    while i < m {
+        let a = i * key;
+        let e = a + key;
+        r = ranked(
+            absorb(state, &list[a..e], rows::Arrival(i), KeptPlace(r)),
+            r,
+        );
+        i += 1;
+    }
+    r
+}
+
+// Whether so many rows with payloads of l bytes fit a state of so many bytes.
+fn eliminating(l: u8, m: usize, room: usize) -> bool
+    ensures { λ a. ⌜ a ≡ eliminates l m room ⌝ }
+{
+    if l < 1 {
+        return false;
+    }
+    if 32 < l {
+        return false;
+    }
+    if 512 < m {
+        return false;
+    }
+    26752 <= room
+}
+
+// Eliminates the whole rows of a list, in list order, in a state made empty first, and gives their rank.
+pub fn eliminate(state: &mut [u8], list: &[u8], l: u8) -> usize
+    ensures rank { λ r. ⌜ r ≡ elimination l (now (list .entry)) (now (state .entry)) .rank ⌝ }
+    ensures state { λ r. ⌜ now (state .exit) ≡ elimination l (now (list .entry)) (now (state .entry)) .state ⌝ }
+{
+    let key = 8 + (l as usize);
+    let m = list.len() / key;
+    if eliminating(l, m, state.len()) {
+        octets::clear(&mut state[0..26752]);
+        absorb_each(state, list, key)
+    } else {
+        0
     }
 }

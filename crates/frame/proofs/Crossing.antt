@@ -41,15 +41,15 @@ written-shaped n l page room e = not-false (shape n l) (passes isDone (not (shap
 -- ---- a frame made of a page
 
 module _ (p n l seed : ℕ) (page : List ℕ) (small : p < 2 ^ 32) (seeded : seed < 2 ^ 32) (s : shape n l ≡ true) where
-  frame-reads : reading (frameOf p n l seed page) ≡ frames.Good p n l seed
+  pub frame-reads : reading (frameOf p n l seed page) ≡ frames.Good p n l seed
   unfolding frameOf sumBytes
   frame-reads = laid-out-reads p n l seed _ small seeded s (length-bytes l _)
 
-  frame-payload : payloadOf (frameOf p n l seed page) ≡ sumBytes n l page (constraint n seed)
+  pub frame-payload : payloadOf (frameOf p n l seed page) ≡ sumBytes n l page (constraint n seed)
   unfolding frameOf sumBytes
   frame-payload = laid-out-payload p n l seed _ small seeded s (length-bytes l _)
 
-  frame-row : frameRow (frameOf p n l seed page) ≡ rowOf n l (constraint n seed) page
+  pub frame-row : frameRow (frameOf p n l seed page) ≡ rowOf n l (constraint n seed) page
   unfolding rowOf sumBytes
   frame-row = row-is (frameOf p n l seed page) p n l seed frame-reads ∙ ap (λ t. bytes 8 (constraint n seed) ++ t) frame-payload
 

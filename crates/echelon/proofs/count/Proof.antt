@@ -46,7 +46,7 @@ unfolding usesAt flagsAt
 returns c =
     let S = c .before .before .before .before .before .before in
     let t = c .before .before .tally in
-    counted-laid (number (S .args .tail .now)) (S .args .m) (S .args .r) (S .args .state .now) (t .last .0) (S .pre .1) (S .pre .2) (S .pre .3)
+    counted-laid (number (S .args .tail .now)) (S .args .arrival .0) (S .args .place .0) (S .args .state .now) (t .last .0) (S .pre .1) (S .pre .2) (S .pre .3)
     (t .kept .0 ∙ simp (length-take, length-drop) (omega (arith, sizes, S .pre))) (t .ensures)
 
 pub count-spec : {M : Type 1} → statement M

@@ -1,8 +1,7 @@
 -- `digit_of` meets its contract: the digit of a byte is that of the number.
 -- Assumes nothing.
-use native.Mathlib.Omega.{arith}
 use borrow.Author.Needs.{needs}
-use Rattle.echelon.proofs.Views.{bytes-known}
+use Rattle.octets.proofs.Runs.{known-below}
 use Rattle.echelon.proofs.Leaves.{digit-read}
 use Rattle.echelon.proofs.digit_of.Statement.{statement}
 use Rattle.echelon.proofs.digit_of.Tie as tie
@@ -28,7 +27,7 @@ cast-result-2 c = search needs
 returns : tie.Need-returns
 returns c =
     let A = c .before .args in
-    digit-read (A .v .now) (A .j) (c .before .pre) (bytes-known (A .v .now) (λ i. omega (arith, c .shared-slice-known .given i)))
+    digit-read (A .v .now) (A .j) (c .before .pre) (known-below (A .v .now) (c .shared-slice-known .given))
 
 pub digit-of-spec : {M : Type 1} → statement M
 digit-of-spec =

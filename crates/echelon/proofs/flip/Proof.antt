@@ -1,8 +1,7 @@
 -- `flip` meets its contract: the byte of the digit changes, and no other.
 -- Assumes nothing.
-use native.Mathlib.Omega.{arith}
 use borrow.Author.Needs.{needs}
-use Rattle.echelon.proofs.Views.{bytes-known}
+use Rattle.octets.proofs.Runs.{known-below}
 use Rattle.echelon.proofs.Leaves.{digit-turned}
 use Rattle.echelon.proofs.flip.Statement.{statement}
 use Rattle.echelon.proofs.flip.Tie as tie
@@ -31,7 +30,7 @@ same-length c = search needs
 returns : tie.Need-returns
 returns c =
     let A = c .before .args in
-    digit-turned (A .v .now) (A .j) (c .before .pre) (bytes-known (A .v .now) (λ i. omega (arith, c .slice-known .given i)))
+    digit-turned (A .v .now) (A .j) (c .before .pre) (known-below (A .v .now) (c .slice-known .given))
 
 pub flip-spec : {M : Type 1} → statement M
 flip-spec =

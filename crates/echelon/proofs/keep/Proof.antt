@@ -70,7 +70,7 @@ unfolding usesAt flagsAt
 returns c =
     let S = c .before .before .before .before .before .before .before .before .before .before .before in
     let W = length (S .args .work .now) in
-    kept-laid W (S .args .t) (number (S .args .work .now)) (S .args .m) (S .args .r) (S .args .state .now) (c .before .before .copy .last .0) (S .pre) (room S)
+    kept-laid W (S .args .t) (number (S .args .work .now)) (S .args .arrival .0) (S .args .place .0) (S .args .state .now) (c .before .before .copy .last .0) (S .pre) (room S)
     (c .before .before .copy .ensures ∙ copied W (c .before .before .before .before .before .before .before .flip .last .0) (take (S .args .t * W + W - S .args .t * W) (drop (S .args .t * W) (S .args .state .now)))
     (c .before .before .before .before .before .before .before .flip .kept .0) (simp (length-take, length-drop) (omega (arith, sizes, room S, S .pre .whole))) ∙ c .before .before .before .before .before .before .before .flip .ensures)
 

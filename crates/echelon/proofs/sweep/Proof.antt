@@ -1,28 +1,33 @@
 -- `sweep` meets its contract: at each place the rest of the pass ends as the whole does, and the place grows.
 -- Assumes nothing.
-use mathlib.Core.Path.{_≡_, refl, sym, ap, _∙_}
-use Prim.Native.Nat.{ℕ, _+_, _-_, _*_, _/_, _%_, _≤_, _<_}
-use native.Mathlib.Omega.{arith}
 use borrow.Author.Needs.{needs}
+use native.Mathlib.Omega.{arith}
+use mathlib.Core.Path.{_≡_, refl, sym, ap, _∙_}
+use mathlib.Core.Bool.{true}
+use Prim.Native.Nat.{ℕ, suc, _+_, _-_, _*_, _/_, _≤_, _<_}
 use borrow.Author.Tests.{not-true, not-false}
-use lib.ListN.{length, getD, take, drop}
-use Rattle.octets.specs.Octets.{addFront}
+use lib.ListN.{length, take, drop}
+use Rattle.octets.specs.Octets.{number, addFront}
+use Rattle.octets.proofs.Runs.{known-below}
+use Rattle.echelon.specs.Algorithm2.{Pass, digit}
 use Rattle.echelon.specs.Reducing.{passOf, slotsOf}
 use Rattle.echelon.proofs.Fits.{Fits, fits-so}
-use Rattle.echelon.proofs.Leading.{First, first-place}
-use Rattle.echelon.proofs.Views.{bytes-known}
-use Rattle.echelon.proofs.Passing.{Passing, passing-start, passing-first, passing-end, left-is}
+use Rattle.echelon.proofs.Passing.{Passing, passing-start, passing-next, passing-end, left-is}
 use Rattle.echelon.proofs.Found.{Found, slot-room, found-stop, found-add}
 use Rattle.echelon.proofs.sweep.Statement.{statement}
 use Rattle.echelon.proofs.sweep.Tie as tie
 
 abbrev Inv-loop : tie.InvT-loop
-Inv-loop work₀ slots key w end t₀ work t = Passing key (length work₀) slots (passOf key slots work₀) work t
+Inv-loop work₀ slots key w end u₀ work u =
+    Passing key (length work₀) slots (passOf key slots work₀) work u × (u < 8 * key → digit (8 * length work₀ - suc u) (number work) ≡ true)
 
 abbrev μ-loop : tie.MeasureT-loop
-μ-loop work₀ slots key w end t₀ work t = 8 * key - t
+μ-loop work₀ slots key w end u₀ work u = 8 * key - u
 
--- what the slots and the vector are known to fit
+-- the whole pass, and what the slots and the vector are known to fit
+abbrev pass-of : (c : tie.Start Inv-loop μ-loop) → Pass
+pass-of c = passOf (c .args .key) (c .args .slots .now) (c .args .work .now)
+
 abbrev Fit : (c : tie.Start Inv-loop μ-loop) → Type 0
 Fit c = Fits (c .args .key) (length (c .args .work .now)) (length (c .args .slots .now))
 
@@ -32,113 +37,71 @@ fit c = fits-so (c .args .key) (length (c .args .work .now)) (length (c .args .s
 mul-end : tie.Need-mul-end Inv-loop μ-loop
 mul-end c = omega (arith, fit (c .before .before))
 
+next-requires : tie.Need-next-requires Inv-loop μ-loop
+next-requires c κs = (omega arith, fit (c .before .before .before) .inside, fit (c .before .before .before) .small)
+
 loop-holds : tie.Need-loop-holds Inv-loop μ-loop
 unfolding passOf slotsOf
 loop-holds c =
-    let A = c .before .before .args in
-    passing-start (A .key) (length (A .work .now)) (A .slots .now) (A .work .now) refl
-    (bytes-known (A .work .now) (λ j. omega (arith, c .before .slice-known .given j)))
-
-slice-read-first : tie.Need-slice-read-first Inv-loop μ-loop
-slice-read-first c = omega (arith, c .before .before .loop .inv .long, c .before .loop-test .taken, fit (c .before .before .before .before .before))
-
-first-requires : tie.Need-first-requires Inv-loop μ-loop
-first-requires c κs = omega arith
-
--- the next set digit of the byte, or 8
-next : (c : tie.After-first Inv-loop μ-loop)
-    → First (getD (c .before .before .before .loop .work) (c .before .before .before .loop .t / 8) 0) (c .before .before .before .loop .t % 8) (c .first .result)
-next c =
-    rw (c .first .ensures)
-    (first-place (getD (c .before .before .before .loop .work) (c .before .before .before .loop .t / 8) 0) (c .before .before .before .loop .t % 8) (omega arith))
-
-mul-u : tie.Need-mul-u Inv-loop μ-loop
-mul-u c = omega (arith, c .before .before .loop-test .taken, fit (c .before .before .before .before .before .before))
-
-add-u : tie.Need-add-u Inv-loop μ-loop
-add-u c = omega (arith, next c .most, c .before .before .loop-test .taken, fit (c .before .before .before .before .before .before))
-
-loop-less : tie.Need-loop-less Inv-loop μ-loop
-loop-less c = omega (arith, c .if1 .taken, c .before .before .before .loop-test .taken)
-
-abbrev On : (c : tie.After-first Inv-loop μ-loop) → Type 0
-On c =
-    let S = c .before .before .before .before .before .before .args in
-    Passing (S .key) (length (S .work .now)) (S .slots .now) (passOf (S .key) (S .slots .now) (S .work .now)) (c .before .before .before .loop .work)
-    (8 * (c .before .before .before .loop .t / 8) + c .first .result)
-
-on : (c : tie.After-first Inv-loop μ-loop) → On c
-on c =
-    let S = c .before .before .before .before .before .before in
-    passing-first (S .args .key) (length (S .args .work .now)) (S .args .slots .now) (passOf (S .args .key) (S .args .slots .now) (S .args .work .now))
-    (c .before .before .before .loop .work) (fit S .inside) (c .before .before .before .loop .t) (c .first .result) (c .before .before .before .loop .inv)
-    (c .before .before .loop-test .taken) (next c)
-
-loop-again : tie.Need-loop-again Inv-loop μ-loop
-loop-again c = on (c .before)
-
-abbrev Seen : (c : tie.Else1 Inv-loop μ-loop) → Type 0
-Seen c =
-    let S = c .before .before .before .before .before .before .before .args in
-    Found (S .key) (length (S .work .now)) (S .slots .now) (passOf (S .key) (S .slots .now) (S .work .now)) (c .before .before .before .before .loop .work)
-    (c .before .before .before .before .loop .t / 8) (c .before .first .result)
-
-seen : (c : tie.Else1 Inv-loop μ-loop) → Seen c
-seen c =
-    let S = c .before .before .before .before .before .before .before in
-    let z : c .before .first .result < 8 = omega (arith, c .if1 .left, next (c .before) .most) in
-    record {
-      fit = fit S;
-      bytes = bytes-known (S .args .slots .now) (λ j. omega (arith, c .before .before .before .before .before .shared-slice-known .given j));
-      passing = on (c .before);
-      byte = omega (arith, c .before .before .before .loop-test .taken);
-      into = z;
-      found = next (c .before) .found z;
-    }
-
--- where the slot is, and that it fits
-abbrev Room : (c : tie.Else1 Inv-loop μ-loop) → Type 0
-Room c =
-    let S = c .before .before .before .before .before .before .before .args in
-    let u = 8 * (c .before .before .before .before .loop .t / 8) + c .before .first .result in
-    (u * length (S .work .now) + length (S .work .now) ≤ length (S .slots .now)) × (c .before .before .before .before .loop .t / 8 < length (S .work .now))
-
-room : (c : tie.Else1 Inv-loop μ-loop) → Room c
-room c =
-    let S = c .before .before .before .before .before .before .before .args in (
-      slot-room (S .key) (length (S .work .now)) (S .slots .now) (passOf (S .key) (S .slots .now) (S .work .now)) (c .before .before .before .before .loop .work)
-          (c .before .before .before .before .loop .t / 8) (c .before .first .result) (seen c),
-      omega (arith, seen c .byte, seen c .fit),
+    let S = c .before .before .before .before in (
+      passing-next (S .args .key) (length (S .args .work .now)) (S .args .slots .now) (pass-of S) (S .args .work .now) (fit S .inside) 0 (c .next .result)
+          (passing-start (S .args .key) (length (S .args .work .now)) (S .args .slots .now) (S .args .work .now) refl
+          (known-below (S .args .work .now) (c .before .before .before .slice-known .given))) (c .next .ensures),
+      c .next .ensures .found,
     )
 
+-- a turn: at a set digit, with a slot for it
+abbrev Seen : (c : tie.In-loop Inv-loop μ-loop) → Type 0
+Seen c =
+    let S = c .before .before .before .before .before .before in
+    Found (S .args .key) (length (S .args .work .now)) (S .args .slots .now) (pass-of S) (c .before .loop .work) (c .before .loop .u)
+
+seen : (c : tie.In-loop Inv-loop μ-loop) → Seen c
+seen c =
+    let S = c .before .before .before .before .before .before in
+    record {
+      fit = fit S;
+      bytes = known-below (S .args .slots .now) (c .before .before .before .before .shared-slice-known .given);
+      passing = c .before .loop .inv .0;
+      inside = c .loop-test .taken;
+      found = c .before .loop .inv .1 (c .loop-test .taken);
+    }
+
+abbrev Room : (c : tie.In-loop Inv-loop μ-loop) → Type 0
+Room c =
+    let A = c .before .before .before .before .before .before .args in
+    let u = c .before .loop .u in
+    (u * length (A .work .now) + length (A .work .now) ≤ length (A .slots .now)) × (u / 8 < length (A .work .now))
+
+room : (c : tie.In-loop Inv-loop μ-loop) → Room c
+room c =
+    let S = c .before .before .before .before .before .before in
+    (slot-room (S .args .key) (length (S .args .work .now)) (S .args .slots .now) (pass-of S) (c .before .loop .work) (c .before .loop .u) (seen c), omega (arith, seen c .inside, fit S .inside))
+
 mul-at : tie.Need-mul-at Inv-loop μ-loop
-mul-at c = omega (arith, room c, c .before .before .before .before .before .before .before .good)
+mul-at c = omega (arith, room c, c .before .before .before .before .before .before .good)
 
 add-e : tie.Need-add-e Inv-loop μ-loop
-add-e c = omega (arith, room c, c .before .before .before .before .before .before .before .good)
+add-e c = omega (arith, room c, c .before .before .before .before .before .before .good)
 
 add-q : tie.Need-add-q Inv-loop μ-loop
-add-q c = omega (arith, room c, c .before .before .before .before .before .before .before .good)
+add-q c = omega (arith, room c, c .before .before .before .before .before .before .good)
 
 shared-slice-read-has : tie.Need-shared-slice-read-has Inv-loop μ-loop
 shared-slice-read-has c = omega (arith, room (c .before))
 
 has-requires : tie.Need-has-requires Inv-loop μ-loop
-has-requires c κs = seen (c .before) .into
+has-requires c κs = omega arith
 
 same-length : tie.Need-same-length Inv-loop μ-loop
-same-length c = c .before .before .before .before .before .before .before .loop .inv .long
+same-length c = c .before .before .before .before .loop .inv .0 .long
 
 returns : tie.Need-returns Inv-loop μ-loop
 returns c =
-    let S = c .before .before .before .before .before .before .before .before .before .before .args in
-    let l = c .before .before .before .before .before .before .before .loop in
-    let z = c .before .before .before .before .first .result in
-    let e = found-stop (S .key) (length (S .work .now)) (S .slots .now) (passOf (S .key) (S .slots .now) (S .work .now)) (l .work) (l .t / 8) z
-    (seen (c .before .before .before)) (sym (c .before .has .ensures) ∙ not-true (c .before .has .result) (c .if2 .taken)) in (
-      sym (e .1),
-      left-is (length (S .work .now)) (l .work) (passOf (S .key) (S .slots .now) (S .work .now)) (l .inv .long) (l .inv .below) (e .0),
-    )
+    let S = c .before .before .before .before .before .before .before .before .before in
+    let l = c .before .before .before .before .loop in
+    let e = found-stop (S .args .key) (length (S .args .work .now)) (S .args .slots .now) (pass-of S) (l .work) (l .u) (seen (c .before .before .before)) (sym (c .before .has .ensures) ∙ not-true (c .before .has .result) (c .if1 .taken)) in
+    (sym (e .1), left-is (length (S .args .work .now)) (l .work) (pass-of S) (l .inv .0 .long) (l .inv .0 .below) (e .0))
 
 sub-add : tie.Need-sub-add Inv-loop μ-loop
 sub-add c = omega arith
@@ -152,39 +115,51 @@ part-add-end c = omega (arith, room (c .before .before .before .before))
 add-requires : tie.Need-add-requires Inv-loop μ-loop
 add-requires c κs = tt
 
-add-t : tie.Need-add-t Inv-loop μ-loop
-add-t c =
-    let F = seen (c .before .before .before .before .before .before .before .before) in
-    omega (arith, F .byte, F .into, F .fit)
+-- the slot added
+abbrev Added : (c : tie.After-add Inv-loop μ-loop) → Type 0
+Added c =
+    let S = c .before .before .before .before .before .before .before .before .before .before .before .before in
+    Passing (S .args .key) (length (S .args .work .now)) (S .args .slots .now) (pass-of S) (c .add .last .0) (c .before .before .before .before .before .before .before .loop .u + 1)
 
-loop-less-2 : tie.Need-loop-less-2 Inv-loop μ-loop
-loop-less-2 c =
-    let F = seen (c .before .before .before .before .before .before .before .before) in
-    omega (arith, F .byte, F .into, next (c .before .before .before .before .before .before .before .before .before) .behind)
+added : (c : tie.After-add Inv-loop μ-loop) → Added c
+added c =
+    let S = c .before .before .before .before .before .before .before .before .before .before .before .before in
+    let l = c .before .before .before .before .before .before .before .loop in
+    let W : ℕ = length (S .args .work .now) in
+    let n : l .u * W + W - l .u * W ≡ W = omega arith in
+    rw (c .add .ensures ∙ ap (λ (k : ℕ). addFront (l .work) (take k (drop (l .u * W) (S .args .slots .now)))) n)
+    (found-add (S .args .key) (length (S .args .work .now)) (S .args .slots .now) (pass-of S) (l .work) (l .u) (seen (c .before .before .before .before .before .before)) (sym (c .before .before .before .before .has .ensures) ∙ not-false (c .before .before .before .before .has .result) (c .before .before .before .if1 .left)))
 
-loop-again-2 : tie.Need-loop-again-2 Inv-loop μ-loop
-loop-again-2 c =
-    let S = c .before .before .before .before .before .before .before .before .before .before .before .before .before .before .before .args in
-    let l = c .before .before .before .before .before .before .before .before .before .before .before .before .loop in
-    let u : ℕ = 8 * (l .t / 8) + c .before .before .before .before .before .before .before .before .before .first .result in
-    let e : u * length (S .work .now) + length (S .work .now) - u * length (S .work .now) ≡ length (S .work .now) = omega arith in
-    let sum = c .before .before .add .ensures ∙ ap (λ (n : ℕ). addFront (l .work) (take n (drop (u * length (S .work .now)) (S .slots .now)))) e in
-    rw sum (found-add (S .key) (length (S .work .now)) (S .slots .now) (passOf (S .key) (S .slots .now) (S .work .now)) (l .work) (l .t / 8)
-    (c .before .before .before .before .before .before .before .before .before .first .result) (seen (c .before .before .before .before .before .before .before .before))
-    (sym (c .before .before .before .before .before .before .has .ensures) ∙ not-false (c .before .before .before .before .before .before .has .result) (c .before .before .before .before .before .if2 .left)))
+long : (c : tie.After-add Inv-loop μ-loop) → length (c .add .last .0) ≡ length (c .before .before .before .before .before .before .before .before .before .before .before .before .args .work .now)
+long c = c .add .kept .0 ∙ c .before .before .before .before .before .before .before .loop .inv .0 .long
+
+add-next : tie.Need-add-next Inv-loop μ-loop
+add-next c = omega (arith, seen (c .before .before .before .before .before .before .before .before .before) .inside, seen (c .before .before .before .before .before .before .before .before .before) .fit)
+
+next-requires-2 : tie.Need-next-requires-2 Inv-loop μ-loop
+next-requires-2 c κs =
+    let S = c .before .before .before .before .before .before .before .before .before .before .before .before .before .before .before in
+    (omega (arith, seen (c .before .before .before .before .before .before .before .before .before) .inside), omega (arith, long (c .before .before .before), fit S .inside), omega (arith, long (c .before .before .before), fit S .small))
+
+loop-less : tie.Need-loop-less Inv-loop μ-loop
+loop-less c = omega (arith, c .next2 .ensures .behind, c .next2 .ensures .within, seen (c .before .before .before .before .before .before .before .before .before .before) .inside)
+
+loop-again : tie.Need-loop-again Inv-loop μ-loop
+loop-again c =
+    let S = c .before .before .before .before .before .before .before .before .before .before .before .before .before .before .before .before in (
+      passing-next (S .args .key) (length (S .args .work .now)) (S .args .slots .now) (pass-of S) (c .before .before .before .before .add .last .0) (fit S .inside) (c .before .before .before .before .before .before .before .before .before .before .before .loop .u + 1) (c .next2 .result) (added (c .before .before .before .before)) (c .next2 .ensures),
+      λ h. rw (long (c .before .before .before .before)) at (c .next2 .ensures .found h),
+    )
 
 same-length-2 : tie.Need-same-length-2 Inv-loop μ-loop
-same-length-2 c = c .before .loop .inv .long
+same-length-2 c = c .before .loop .inv .0 .long
 
 returns-2 : tie.Need-returns-2 Inv-loop μ-loop
 returns-2 c =
-    let S = c .before .before .before .before in
+    let S = c .before .before .before .before .before .before in
     let l = c .before .loop in
-    let e = passing-end (S .args .key) (length (S .args .work .now)) (S .args .slots .now) (passOf (S .args .key) (S .args .slots .now) (S .args .work .now))
-    (l .work) (fit S .inside) (l .t) (l .inv) (c .loop-test .left) in (
-      sym (e .1),
-      left-is (length (S .args .work .now)) (l .work) (passOf (S .args .key) (S .args .slots .now) (S .args .work .now)) (l .inv .long) (l .inv .below) (e .0),
-    )
+    let e = passing-end (S .args .key) (length (S .args .work .now)) (S .args .slots .now) (pass-of S) (l .work) (fit S .inside) (l .u) (l .inv .0) (c .loop-test .left) in
+    (sym (e .1), left-is (length (S .args .work .now)) (l .work) (pass-of S) (l .inv .0 .long) (l .inv .0 .below) (e .0))
 
 pub sweep-spec : {M : Type 1} → statement M
 sweep-spec =
@@ -193,13 +168,8 @@ sweep-spec =
     Inv-loop
     μ-loop
     mul-end
+    next-requires
     loop-holds
-    slice-read-first
-    first-requires
-    mul-u
-    add-u
-    loop-less
-    loop-again
     mul-at
     add-e
     add-q
@@ -211,8 +181,9 @@ sweep-spec =
     part-add-start
     part-add-end
     add-requires
-    add-t
-    loop-less-2
-    loop-again-2
+    add-next
+    next-requires-2
+    loop-less
+    loop-again
     same-length-2
     returns-2)

@@ -9,15 +9,16 @@ use Rattle.octets.specs.Octets.{number}
 use Rattle.echelon.specs.Algorithm2.{Pass}
 use Rattle.echelon.specs.State.{mostKept, tailBytes, Absorption, keptState, passIn}
 use Rattle.echelon.proofs.Places.{sizes}
-use Rattle.echelon.proofs.Absorbing.{Takes, takes-so, taken-other, taken-kept, taken-full, tail-digits, counted-same, kept-same}
+use Rattle.echelon.proofs.Absorbing.{Takes, takes-so, taken-other, taken-kept, taken-full}
+use Rattle.echelon.proofs.Vectors.{tail-digits, counted-same, kept-same}
 use Rattle.echelon.proofs.take_in.Statement.{statement}
 use Rattle.echelon.proofs.take_in.Tie as tie
 
 abbrev Fit : (c : tie.Start) → Type 0
-Fit c = Takes (length (c .args .row .now)) (c .args .m) (c .args .r) (length (c .args .state .now))
+Fit c = Takes (length (c .args .row .now)) (c .args .arrival .0) (c .args .place .0) (length (c .args .state .now))
 
 fit : (c : tie.Start) → Fit c
-fit c = takes-so (length (c .args .row .now)) (c .args .m) (c .args .r) (length (c .args .state .now)) (c .pre .1)
+fit c = takes-so (length (c .args .row .now)) (c .args .arrival .0) (c .args .place .0) (length (c .args .state .now)) (c .pre .1)
 
 attempt-requires : tie.Need-attempt-requires
 attempt-requires c κs =
@@ -53,11 +54,11 @@ returns c =
     let A = S .args in
     let a = c .before .before .before .before .before .before .before .before .before .attempt in
     let p : Pass = passIn (length (A .row .now)) (number (A .row .now)) (A .state .now) in
-    let e = taken-other (length (A .row .now)) p (A .m) (A .r) (A .state .now) (rw (a .ensures .0) at (c .before .before .before .before .before .before .if1 .taken)) in (
+    let e = taken-other (length (A .row .now)) p (A .arrival .0) (A .place .0) (A .state .now) (rw (a .ensures .0) at (c .before .before .before .before .before .before .if1 .taken)) in (
       sym (ap (λ (o : Absorption). o .answer) e),
       c .before .before .count .ensures
-          ∙ counted-same _ (p .vector) (A .m) (A .r) (A .state .now)
-          (tail-digits (length (A .row .now)) (length (A .work .now)) (p .vector) (A .r) (a .last .0) (S .pre .0) (a .ensures .1) (fit S .place))
+          ∙ counted-same _ (p .vector) (A .arrival .0) (A .place .0) (A .state .now)
+          (tail-digits (length (A .row .now)) (length (A .work .now)) (p .vector) (A .place .0) (a .last .0) (S .pre .0) (a .ensures .1) (fit S .place))
           ∙ sym (ap (λ (o : Absorption). o .state) e),
     )
 
@@ -89,11 +90,11 @@ returns-2 c =
     let a = c .before .before .before .before .before .before .before .before .before .before .before .attempt in
     let p : Pass = passIn (length (A .row .now)) (number (A .row .now)) (A .state .now) in
     let n : length (a .last .0) ≡ length (A .row .now) + tailBytes = a .kept .0 ∙ S .pre .0 in
-    let e = taken-kept (length (A .row .now)) p (A .m) (A .r) (A .state .now) (rw (a .ensures .0) at (c .before .before .before .before .before .before .before .before .if1 .left)) (c .before .before .before .before .before .before .before .if2 .taken) in (
+    let e = taken-kept (length (A .row .now)) p (A .arrival .0) (A .place .0) (A .state .now) (rw (a .ensures .0) at (c .before .before .before .before .before .before .before .before .if1 .left)) (c .before .before .before .before .before .before .before .if2 .taken) in (
       sym (ap (λ (o : Absorption). o .answer) e),
       c .before .before .before .before .keep .ensures
-          ∙ ap₂ (λ (w t : ℕ). keptState w t (number (a .last .0)) (A .m) (A .r) (A .state .now)) n (a .ensures .0)
-          ∙ kept-same (length (A .row .now) + tailBytes) (p .place) (p .vector) (A .m) (A .r) (a .last .0) (A .state .now) (a .ensures .1)
+          ∙ ap₂ (λ (w t : ℕ). keptState w t (number (a .last .0)) (A .arrival .0) (A .place .0) (A .state .now)) n (a .ensures .0)
+          ∙ kept-same (length (A .row .now) + tailBytes) (p .place) (p .vector) (A .arrival .0) (A .place .0) (a .last .0) (A .state .now) (a .ensures .1)
           ∙ sym (ap (λ (o : Absorption). o .state) e),
     )
 
@@ -110,7 +111,7 @@ returns-3 c =
     let A = S .args in
     let a = c .before .before .before .before .attempt in
     let p : Pass = passIn (length (A .row .now)) (number (A .row .now)) (A .state .now) in
-    let e = taken-full (length (A .row .now)) p (A .m) (A .r) (A .state .now) (rw (a .ensures .0) at (c .before .if1 .left)) (c .if2 .left) in
+    let e = taken-full (length (A .row .now)) p (A .arrival .0) (A .place .0) (A .state .now) (rw (a .ensures .0) at (c .before .if1 .left)) (c .if2 .left) in
     (sym (ap (λ (o : Absorption). o .answer) e), sym (ap (λ (o : Absorption). o .state) e))
 
 pub take-in-spec : {M : Type 1} → statement M

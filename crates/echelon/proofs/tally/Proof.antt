@@ -8,8 +8,8 @@ use lib.ListN.{take, drop}
 use Rattle.space.specs.Lists.{Below}
 use Rattle.octets.specs.Octets.{number, bytes, numbers, flat, lay}
 use Rattle.reading.proofs.OneMore.{raised}
+use Rattle.octets.proofs.Runs.{known-below}
 use Rattle.echelon.specs.Algorithm2.{digits}
-use Rattle.echelon.proofs.Views.{bytes-known}
 use Rattle.echelon.proofs.Uses.{Tallying, tally-start, tally-long, tally-more}
 use Rattle.echelon.proofs.tally.Statement.{statement}
 use Rattle.echelon.proofs.tally.Tie as tie
@@ -21,7 +21,7 @@ abbrev μ-loop : tie.MeasureT-loop
 μ-loop uses₀ tail r j₀ uses j = r - j
 
 known : (c : tie.After-slice-known Inv-loop μ-loop) → Below 256 (c .before .args .uses .now)
-known c = bytes-known (c .before .args .uses .now) (λ i. omega (arith, c .slice-known .given i))
+known c = known-below (c .before .args .uses .now) (c .slice-known .given)
 
 loop-holds : tie.Need-loop-holds Inv-loop μ-loop
 loop-holds c =

@@ -1,0 +1,106 @@
+-- Demand 2, from written frames to a page: frames written from one page with any seeds, in any order, with frames of other pages or damaged
+-- ones in between, laid one after the other and read, give that page whenever their rank reaches the number of symbols.
+-- Assumes nothing.
+use mathlib.Core.Path.{_≡_, refl, _∙_}
+use Prim.Native.Nat.{ℕ, suc, _+_, _*_, _^_, _≤_, _<_}
+use native.Mathlib.Nat.{mul-mod-left}
+use native.Mathlib.Omega.{arith}
+use mathlib.Core.Bool.{true}
+use mathlib.Core.List.{List, [], _∷_, map}
+use lib.ListN.{length, length-map}
+use lib.Pow.{pow-mono}
+use borrow.Author.Tests.{le-leb, lt-leb}
+use Rattle.space.specs.Lists.{All, Below}
+use Rattle.space.proofs.Lists.{below-more}
+use Rattle.octets.specs.Octets.{flat}
+use Rattle.octets.proofs.Runs.{length-flat}
+use Rattle.rows.specs.Rows.{shape, symbols, rowBytes, rowsOf, constraint, agrees, made}
+use Rattle.rows.proofs.Lists.{rowCount-flat, rows-flat}
+use Rattle.rows.proofs.Pages.{symbols-below, made-constraint, made-agrees}
+use Rattle.rows.proofs.Shape.{shape-range}
+use Rattle.rows.proofs.Sums.{rows-lt}
+use Rattle.rows.proofs.Written.{rowOf-made}
+use Rattle.draw.specs.Draw as draw
+use Rattle.draw.proofs.Laws.{drawn-below}
+use Rattle.reading.specs.declared.Answer.the-variants as answer
+use Rattle.reading.specs.Reading.{rank}
+use Rattle.reading.specs.Outcome.{Lent, passes, mostRows, wholeRows, roomy, strayFrom, checks, outcome, ended, telling}
+use Rattle.reading.proofs.Demand2.{demand-2}
+use Rattle.frame.specs.Writing.{frameOf}
+use Rattle.frame.proofs.Crossing.{frame-reads, frame-row}
+use Rattle.crossing.specs.Sheet.{blank, offeredAll, listOf}
+use Rattle.crossing.proofs.Laid.{Refused, Came, laid-list}
+
+-- ---- a list of rows passes the checks
+
+stray-passes : (n l i : ℕ) (rows : List ℕ) → Below (2 ^ n) (map (constraint l) rows) → strayFrom n l i rows ≡ passes
+unfolding strayFrom
+stray-passes n l i [] b = refl
+stray-passes n l i (r ∷ rows) b = rw (lt-leb (2 ^ n) (constraint l r) (b .0)) (stray-passes n l (suc i) rows (b .1))
+
+pub flat-passes : (n l : ℕ) (rows : List ℕ) → shape n l ≡ true → length rows ≤ 512 → Below (2 ^ (8 * rowBytes l)) rows → Below (2 ^ n) (map (constraint l) rows)
+    → (lent : Lent) → roomy n l (length rows) lent ≡ true → checks n l (flat (rowBytes l) rows) lent ≡ passes
+unfolding checks wholeRows mostRows
+flat-passes n l rows s most b inside lent room =
+    rw s (rw (length-flat (8 + l) rows) (rw (mul-mod-left (length rows) (8 + l)) (rw (rowCount-flat l rows) (rw (le-leb (length rows) 512 most)
+    (rw room (rw (rows-flat l rows b) (stray-passes n l 0 rows inside)))))))
+
+-- ---- frames of one page, and others
+
+module _ (number n l : ℕ) (page : List ℕ) where
+  -- frames in the order in which they came: those written from the page, with their seeds, and others, which laying refuses
+  pub data Mixed : List (List ℕ) → List ℕ → Type 0 where
+    none : Mixed [] []
+    own : {frames : List (List ℕ)} {seeds : List ℕ} (seed : ℕ) → seed < 2 ^ 32 → Mixed frames seeds → Mixed (frameOf number n l seed page ∷ frames) (seed ∷ seeds)
+    other : {frame : List ℕ} {frames : List (List ℕ)} {seeds : List ℕ} → Refused number n l frame → Mixed frames seeds → Mixed (frame ∷ frames) seeds
+
+-- the rows that a page gives for seeds
+unfoldable pub rowsFor : ℕ → ℕ → List ℕ → List ℕ → List ℕ
+rowsFor n l page seeds = map (λ seed. made l (symbols n l page) (draw.constraint n seed)) seeds
+
+module _ (number n l : ℕ) (page : List ℕ) (small : number < 2 ^ 32) (s : shape n l ≡ true) (size : length page ≡ n * l) (b : Below 256 page) where
+  symbols-low : Below (2 ^ (8 * l)) (symbols n l page)
+  symbols-low = symbols-below n l page size b
+
+  drawn-low : (seed : ℕ) → draw.constraint n seed < 2 ^ n
+  drawn-low seed = drawn-below n seed (shape-range n l s .n-low)
+
+  mixed-came : {frames : List (List ℕ)} {seeds : List ℕ} → Mixed number n l page frames seeds → Came number n l frames (rowsFor n l page seeds)
+  unfolding rowsFor
+  mixed-came Mixed.none = Came.none
+  mixed-came (Mixed.own seed h m) =
+      Came.own (record { seed = seed; reads = frame-reads number n l seed page small h s; row = frame-row number n l seed page small h s ∙ rowOf-made n l page b (draw.constraint n seed) }) (mixed-came m)
+  mixed-came (Mixed.other r m) = Came.other r (mixed-came m)
+
+  rows-inside : (seeds : List ℕ) → Below (2 ^ n) (map (constraint l) (rowsFor n l page seeds))
+  unfolding rowsFor
+  rows-inside [] = tt
+  rows-inside (seed ∷ seeds) = (rw (made-constraint l (symbols n l page) symbols-low (draw.constraint n seed)) (drawn-low seed), rows-inside seeds)
+
+  rows-low : (seeds : List ℕ) → Below (2 ^ (8 * rowBytes l)) (rowsFor n l page seeds)
+  rows-low seeds = below-more (2 ^ (n + 8 * l)) (2 ^ (8 * rowBytes l)) (pow-mono (omega (arith, shape-range n l s .n-high))) (rowsFor n l page seeds) (rows-lt n l (rowsFor n l page seeds) (rows-inside seeds))
+
+  rows-agree : (seeds : List ℕ) → All (agrees l (symbols n l page)) (rowsFor n l page seeds)
+  unfolding rowsFor
+  rows-agree [] = tt
+  rows-agree (seed ∷ seeds) = (made-agrees l (symbols n l page) symbols-low (draw.constraint n seed), rows-agree seeds)
+
+  pub crossing-2 : {frames : List (List ℕ)} {seeds : List ℕ} → Mixed number n l page frames seeds → length seeds ≤ 512
+      → (list : List ℕ) → rowBytes l * 512 ≤ length list → (lent : Lent) → roomy n l (length seeds) lent ≡ true → n ≤ rank (rowsFor n l page seeds)
+      → outcome n l (listOf l (offeredAll number n l frames (blank list))) lent
+      ≡ ended n (rowsFor n l page seeds) lent (answer.Page n (length seeds)) telling page
+  crossing-2 {seeds = seeds} m most list room lent roomed enough =
+      rw (laid-list number n l s (mixed-came m) (omega (arith, many)) list room)
+      (demand-2 n l (flat (rowBytes l) rows) lent passing page size b (rw same (rows-agree seeds)) (rw same enough) ∙ rw same (rw (rowCount-flat l rows) (rw many)))
+    where
+      rows : List ℕ
+      rows = rowsFor n l page seeds
+
+      many : length rows ≡ length seeds
+      many = unfold rowsFor in length-map seeds _
+
+      same : rowsOf l (flat (rowBytes l) rows) ≡ rows
+      same = rows-flat l rows (rows-low seeds)
+
+      passing : checks n l (flat (rowBytes l) rows) lent ≡ passes
+      passing = flat-passes n l rows s (omega (arith, many)) (rows-low seeds) (rows-inside seeds) lent (rw many roomed)

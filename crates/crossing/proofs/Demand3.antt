@@ -1,0 +1,131 @@
+-- Demand 3, from written frames to a page: take any seeds, any pattern of flipped payload bits, and two pages of the same shape. The frames of
+-- either page, with the same flips, laid and read, give the same but for the page, and the two pages given differ by the sum of the two
+-- pages written. So what is written on a page never decides if it gets through. A misread seed names another sum, and of that nothing
+-- is claimed here: a frame that reads as a good one of the page is then a row like any other.
+-- Assumes nothing.
+use mathlib.Core.Path.{_≡_, refl, sym, ap, ap₂, _∙_}
+use Prim.Native.Nat.{ℕ, _+_, _*_, _^_, _≤_, _<_}
+use native.Mathlib.Omega.{arith}
+use mathlib.Core.Bool.{true}
+use mathlib.Core.List.{List, [], _∷_, map}
+use lib.Pow.{pow-mono}
+use lib.ListN.{length, length-map}
+use Rattle.space.specs.Lists.{Below}
+use Rattle.space.proofs.Lists.{below-more}
+use Rattle.space.proofs.Xor.{⊕-lt}
+use Rattle.octets.specs.Octets.{number, numbers, flat, xorBytes}
+use Rattle.octets.proofs.Xors.{length-xorBytes, xorBytes-below}
+use Rattle.octets.proofs.Numbers.{number-lt}
+use Rattle.octets.proofs.Runs.{flat-below, flat-numbers, numbers-flat}
+use Rattle.rows.specs.Rows.{shape, symbols, rowBytes, constraint}
+use Rattle.rows.specs.Shift.{shifted, shiftedList, plus}
+use Rattle.rows.proofs.Lists.{rows-flat}
+use Rattle.rows.proofs.Sums.{rows-lt}
+use Rattle.rows.proofs.Pages.{length-symbols, symbols-below}
+use Rattle.rows.proofs.Shape.{shape-range}
+use Rattle.rows.proofs.Shifts.{flat-plus}
+use Rattle.draw.specs.Draw as draw
+use Rattle.draw.proofs.Laws.{drawn-below}
+use Rattle.reading.specs.Outcome.{Lent, roomy, checks, passes, outcome}
+use Rattle.reading.specs.Added.{added}
+use Rattle.reading.proofs.Demand3.{demand-3}
+use Rattle.crossing.specs.Taken.{Take, taken, crossed}
+use Rattle.crossing.proofs.Moved.{flipped-constraint, moved-row}
+use Rattle.crossing.proofs.Laid.{Came, laid-list}
+use Rattle.crossing.proofs.Flipped.{Sound, rowTaken, taken-own}
+use Rattle.crossing.proofs.Demand2.{flat-passes}
+
+-- each of a list of takes is sound
+abbrev pub AllSound : ℕ → List Take → Type 0
+AllSound l [] = Unit {0}
+AllSound l (t ∷ ts) = Sound l t × AllSound l ts
+
+-- two pages added bit by bit are added symbol by symbol
+length-plus : (p q : List ℕ) → length p ≡ length q → length (plus p q) ≡ length p
+unfolding plus
+length-plus [] q e = refl
+length-plus (s ∷ p) [] e = absurd (omega arith)
+length-plus (s ∷ p) (t ∷ q) e = omega (arith, length-plus p q (omega arith))
+
+plus-below : (k : ℕ) (p q : List ℕ) → Below (2 ^ k) p → Below (2 ^ k) q → Below (2 ^ k) (plus p q)
+unfolding plus
+plus-below k [] q b d = tt
+plus-below k (s ∷ p) [] b d = tt
+plus-below k (s ∷ p) (t ∷ q) b d = (⊕-lt k s t (b .0) (d .0), plus-below k p q (b .1) (d .1))
+
+-- one page's frames, taken and laid
+module _ (page-number n l : ℕ) (small : page-number < 2 ^ 32) (s : shape n l ≡ true) where
+  module _ (page : List ℕ) (size : length page ≡ n * l) (b : Below 256 page) where
+    low : Below (2 ^ (8 * l)) (symbols n l page)
+    low = symbols-below n l page size b
+
+    takes-came : (ts : List Take) → AllSound l ts → Came page-number n l (map (taken page-number n l page) ts) (map (rowTaken n l page) ts)
+    takes-came [] a = Came.none
+    takes-came (t ∷ ts) a = Came.own (taken-own page-number n l page small s b t (a .0)) (takes-came ts (a .1))
+
+    flips-lt : (t : Take) → Sound l t → number (t .flips) < 2 ^ (8 * l)
+    flips-lt t a = rw (a .size) at (number-lt (t .flips) (a .bytes))
+
+    taken-inside : (ts : List Take) → AllSound l ts → Below (2 ^ n) (map (constraint l) (map (rowTaken n l page) ts))
+    unfolding rowTaken
+    taken-inside [] a = tt
+    taken-inside (t ∷ ts) a =
+        (rw (flipped-constraint l (symbols n l page) low (draw.constraint n (t .seed)) (number (t .flips)) (flips-lt t (a .0))) (drawn-below n (t .seed) (shape-range n l s .n-low)), taken-inside ts (a .1))
+
+    taken-low : (ts : List Take) → AllSound l ts → Below (2 ^ (8 * rowBytes l)) (map (rowTaken n l page) ts)
+    taken-low ts a =
+        below-more (2 ^ (n + 8 * l)) (2 ^ (8 * rowBytes l)) (pow-mono (omega (arith, shape-range n l s .n-high))) (map (rowTaken n l page) ts)
+        (rows-lt n l (map (rowTaken n l page) ts) (taken-inside ts a))
+
+    crossed-rows : (ts : List Take) → AllSound l ts → length ts ≤ 512 → (list : List ℕ) → rowBytes l * 512 ≤ length list
+        → crossed page-number n l page ts list ≡ flat (rowBytes l) (map (rowTaken n l page) ts)
+    unfolding crossed
+    crossed-rows ts a most list room = laid-list page-number n l s (takes-came ts a) (omega (arith, length-map ts (rowTaken n l page))) list room
+
+  module _ (p q : List ℕ) (sp : length p ≡ n * l) (sq : length q ≡ n * l) (bp : Below 256 p) (bq : Below 256 q) where
+    same-symbols : length (symbols n l p) ≡ length (symbols n l q)
+    same-symbols = length-symbols n l p ∙ sym (length-symbols n l q)
+
+    symbols-plus : symbols n l (xorBytes p q) ≡ plus (symbols n l p) (symbols n l q)
+    symbols-plus =
+        ap (symbols n l) (sym (flat-plus l (symbols n l p) (symbols n l q) same-symbols ∙ ap₂ xorBytes (spelled p sp bp) (spelled q sq bq)))
+        ∙ back
+      where
+        spelled : (page : List ℕ) → length page ≡ n * l → Below 256 page → flat l (symbols n l page) ≡ page
+        spelled page size b = unfold symbols in flat-numbers l n page size b
+
+        both : List ℕ
+        both = plus (symbols n l p) (symbols n l q)
+
+        many : length both ≡ n
+        many = length-plus (symbols n l p) (symbols n l q) same-symbols ∙ length-symbols n l p
+
+        back : symbols n l (flat l both) ≡ both
+        back = unfold symbols in ap (λ (m : ℕ). numbers l m (flat l both)) (sym many) ∙ numbers-flat l both (plus-below (8 * l) (symbols n l p) (symbols n l q) (low p sp bp) (low q sq bq))
+
+    moved-rows : (ts : List Take) → AllSound l ts → map (shifted l (symbols n l (xorBytes p q))) (map (rowTaken n l p) ts) ≡ map (rowTaken n l q) ts
+    unfolding rowTaken
+    moved-rows [] a = refl
+    moved-rows (t ∷ ts) a =
+        ap₂ (λ x xs. x ∷ xs)
+        (rw symbols-plus (moved-row l (symbols n l p) (symbols n l q) (low p sp bp) (low q sq bq) same-symbols (draw.constraint n (t .seed)) (number (t .flips)) (flips-lt p sp bp t (a .0))))
+        (moved-rows ts (a .1))
+
+    pub crossing-3 : (takes : List Take) → AllSound l takes → length takes ≤ 512 → (list : List ℕ) → rowBytes l * 512 ≤ length list
+        → (lent : Lent) → roomy n l (length takes) lent ≡ true
+        → outcome n l (crossed page-number n l q takes list) lent ≡ added (xorBytes p q) (outcome n l (crossed page-number n l p takes list) lent)
+    crossing-3 takes a most list room lent roomed =
+        rw (crossed-rows q sq bq takes a most list room) (rw (crossed-rows p sp bp takes a most list room)
+        (ap (λ (bytes : List ℕ). outcome n l bytes lent) moved
+        ∙ demand-3 n l (flat (rowBytes l) rows) lent (flat-below (8 + l) rows) passing (xorBytes p q) (length-xorBytes p q (sp ∙ sym sq) ∙ sp) (xorBytes-below p q bp bq)))
+      where
+        rows : List ℕ
+        rows = map (rowTaken n l p) takes
+
+        moved : flat (rowBytes l) (map (rowTaken n l q) takes) ≡ shiftedList l (symbols n l (xorBytes p q)) (flat (rowBytes l) rows)
+        moved = unfold shiftedList in rw (rows-flat l rows (taken-low p sp bp takes a)) (rw (moved-rows takes a))
+
+        passing : checks n l (flat (rowBytes l) rows) lent ≡ passes
+        passing =
+            flat-passes n l rows s (omega (arith, length-map takes (rowTaken n l p))) (taken-low p sp bp takes a) (taken-inside p sp bp takes a) lent
+            (rw (length-map takes (rowTaken n l p)) roomed)

@@ -1,0 +1,96 @@
+-- A frame with payload bits flipped still reads, and its row is the page's row with those bits flipped.
+-- Assumes nothing.
+use mathlib.Core.Path.{_≡_, sym, ap, ap₂, _∙_}
+use Prim.Native.Nat.{ℕ, _+_, _^_, _<_}
+use native.Mathlib.Nat.{div-eq-of-lt}
+use native.Mathlib.Omega.{arith}
+use mathlib.Core.Bool.{true}
+use mathlib.Core.List.{List, _++_, append-assoc}
+use lib.ListN.{length, take, drop, replicate, length-append}
+use lib.Seq.{take-at, drop-at}
+use Rattle.space.specs.Space.{_⊕_}
+use Rattle.space.specs.Lists.{Below}
+use Rattle.octets.specs.Octets.{number, bytes, xorBytes}
+use Rattle.octets.proofs.Xors.{length-xorBytes, xorBytes-append, xorBytes-zero}
+use Rattle.octets.proofs.Numbers.{length-bytes, number-lt, bytes-⊕, bytes-number}
+use Rattle.octets.proofs.Digits.{bytes-append, bytes-zero}
+use Rattle.rows.specs.Rows.{shape, symbols, rowBytes, named, made}
+use Rattle.rows.specs.Make.{rowOf}
+use Rattle.rows.proofs.Written.{rowOf-made}
+use Rattle.draw.specs.Draw as draw
+use Rattle.frame.specs.Layout.{mark, fieldBytes, headBytes, frameBytes, payloadAt}
+use Rattle.frame.specs.Writing.{sumBytes, frameOf}
+use Rattle.frame.proofs.Lengths.{length-head, length-mark}
+use Rattle.frame.proofs.ReadBack.{laid-out-reads, laid-out-payload}
+use Rattle.frame.proofs.Laying.{row-is}
+use Rattle.crossing.specs.Taken.{Take, flipped, taken}
+use Rattle.crossing.proofs.Laid.{Own}
+
+-- the payload is what stands behind the first 22 bytes
+flipped-frame : (page n l seed : ℕ) (payload flips : List ℕ) → length payload ≡ length flips
+    → flipped flips (frameBytes page n l seed payload) ≡ frameBytes page n l seed (xorBytes payload flips)
+unfolding flipped frameBytes fieldBytes
+flipped-frame page n l seed payload flips e =
+    rw (length-xorBytes payload flips e) (ap₂ (λ (h t : List ℕ). h ++ xorBytes t flips) front back ∙ append-assoc (headBytes page n l seed) (mark 4 (length payload)) (xorBytes payload flips))
+  where
+    head : List ℕ
+    head = headBytes page n l seed ++ mark 4 (length payload)
+
+    size : length head ≡ payloadAt + 3
+    size = length-append (headBytes page n l seed) (mark 4 (length payload)) ∙ ap₂ (λ (x y : ℕ). x + y) (length-head page n l seed) (length-mark 4 (length payload))
+
+    front : take (payloadAt + 3) (headBytes page n l seed ++ (mark 4 (length payload) ++ payload)) ≡ head
+    front = ap (take (payloadAt + 3)) (sym (append-assoc (headBytes page n l seed) (mark 4 (length payload)) payload)) ∙ take-at head payload (payloadAt + 3) size
+
+    back : drop (payloadAt + 3) (headBytes page n l seed ++ (mark 4 (length payload) ++ payload)) ≡ payload
+    back = ap (drop (payloadAt + 3)) (sym (append-assoc (headBytes page n l seed) (mark 4 (length payload)) payload)) ∙ drop-at head payload (payloadAt + 3) size
+
+-- the row of a page with bits flipped
+unfoldable pub rowTaken : ℕ → ℕ → List ℕ → Take → ℕ
+rowTaken n l page t = made l (symbols n l page) (draw.constraint n (t .seed)) ⊕ number (t .flips)
+
+row-bytes : (n l : ℕ) (page : List ℕ) → Below 256 page → (c : ℕ) (flips : List ℕ) → length flips ≡ l → Below 256 flips
+    → bytes 8 c ++ xorBytes (bytes l (named (symbols n l page) c)) flips ≡ bytes (rowBytes l) (made l (symbols n l page) c ⊕ number flips)
+unfolding rowOf
+row-bytes n l page b c flips size bf =
+    sym (bytes-⊕ (8 + l) (made l (symbols n l page) c) (number flips)
+    ∙ ap₂ xorBytes (sym (rowOf-made n l page b c)) low
+    ∙ xorBytes-append (bytes 8 c) (replicate 8 0) (bytes l (named (symbols n l page) c)) flips (length-bytes 8 c)
+    ∙ ap (λ (h : List ℕ). h ++ xorBytes (bytes l (named (symbols n l page) c)) flips) (xorBytes-zero 8 (bytes 8 c) (omega (arith, length-bytes 8 c))))
+  where
+    low : bytes (8 + l) (number flips) ≡ replicate 8 0 ++ flips
+    low = bytes-append 8 l (number flips)
+        ∙ ap₂ (λ (h t : List ℕ). h ++ t) (ap (bytes 8) (div-eq-of-lt (rw size at (number-lt flips bf))) ∙ bytes-zero 8) (ap (λ (k : ℕ). bytes k (number flips)) (sym size) ∙ bytes-number flips bf)
+
+-- what is asked of a take: a seed of four bytes, and a pattern of l bytes
+pub record Sound (l : ℕ) (t : Take) : Type 0 where
+  pub seeded : t .seed < 2 ^ 32
+  pub size : length (t .flips) ≡ l
+  pub bytes : Below 256 (t .flips)
+
+module _ (page-number n l : ℕ) (page : List ℕ) (small : page-number < 2 ^ 32) (s : shape n l ≡ true) (b : Below 256 page) (t : Take) (sound : Sound l t) where
+  payload : List ℕ
+  payload = xorBytes (sumBytes n l page (draw.constraint n (t .seed))) (t .flips)
+
+  sized : length (sumBytes n l page (draw.constraint n (t .seed))) ≡ length (t .flips)
+  unfolding sumBytes
+  sized = length-bytes l _ ∙ sym (sound .size)
+
+  long : length payload ≡ l
+  unfolding payload
+  long = length-xorBytes (sumBytes n l page (draw.constraint n (t .seed))) (t .flips) sized ∙ sized ∙ sound .size
+
+  taken-is : taken page-number n l page t ≡ frameBytes page-number n l (t .seed) payload
+  unfolding taken payload frameOf
+  taken-is = flipped-frame page-number n l (t .seed) (sumBytes n l page (draw.constraint n (t .seed))) (t .flips) sized
+
+  pub taken-own : Own page-number n l (taken page-number n l page t) (rowTaken n l page t)
+  taken-own =
+      rw taken-is (record {
+        seed = t .seed;
+        reads = laid-out-reads page-number n l (t .seed) payload small (sound .seeded) s long;
+        row =
+            row-is (frameBytes page-number n l (t .seed) payload) page-number n l (t .seed) (laid-out-reads page-number n l (t .seed) payload small (sound .seeded) s long)
+            ∙ ap (λ (p : List ℕ). bytes 8 (draw.constraint n (t .seed)) ++ p) (laid-out-payload page-number n l (t .seed) payload small (sound .seeded) s long)
+            ∙ unfold payload sumBytes rowTaken in row-bytes n l page b (draw.constraint n (t .seed)) (t .flips) (sound .size) (sound .bytes);
+      })

@@ -1,0 +1,5 @@
+pub mod Moved
+pub mod Laid
+pub mod Demand2
+pub mod Flipped
+pub mod Demand3

@@ -1,0 +1,33 @@
+-- Frames laid one after the other: what a phone holds that takes the frames of one page, whatever else it sees in between.
+use Prim.Native.Nat.{ℕ, suc, _*_}
+use mathlib.Core.Bool.{cond}
+use mathlib.Core.List.{List, [], _∷_}
+use lib.Dec.{eqb}
+use lib.ListN.{take}
+use Rattle.rows.specs.Rows.{rowBytes}
+use Rattle.frame.specs.Laying.{laid, numberOf, listAfter, frameRow}
+
+-- The list lent for the rows, and how many are laid in it.
+pub record Sheet : Type 0 where
+  pub list : List ℕ
+  pub rows : ℕ
+
+-- A list with no rows yet, whatever its bytes.
+abbrev pub blank : List ℕ → Sheet
+blank list = record { list = list; rows = 0 }
+
+-- A frame is laid at the next arrival number; a refused one changes nothing.
+unfoldable pub offered : ℕ → ℕ → ℕ → List ℕ → Sheet → Sheet
+offered number n l frame s =
+    record {
+      list = listAfter (laid frame number n l (s .rows) (s .list)) (rowBytes l * s .rows) (frameRow frame) (s .list);
+      rows = cond (eqb (numberOf (laid frame number n l (s .rows) (s .list))) 0) (suc (s .rows)) (s .rows);
+    }
+
+unfoldable pub offeredAll : ℕ → ℕ → ℕ → List (List ℕ) → Sheet → Sheet
+offeredAll number n l [] s = s
+offeredAll number n l (frame ∷ frames) s = offeredAll number n l frames (offered number n l frame s)
+
+-- The rows laid, as the list that is then read.
+unfoldable pub listOf : ℕ → Sheet → List ℕ
+listOf l s = take (rowBytes l * s .rows) (s .list)

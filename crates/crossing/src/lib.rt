@@ -1,0 +1,1 @@
+// From written frames to a page: the demands, end to end. There is no code here.

@@ -1,0 +1,72 @@
+-- What fits `eliminate`, its outcome either way, and the state that it starts from.
+-- Assumes nothing.
+use mathlib.Core.Path.{_≡_, ap, _∙_}
+use mathlib.Core.List.{List, _++_}
+use mathlib.Core.Bool.{true, false, _&&_}
+use Prim.Native.Nat.{ℕ, _≤_, _<_}
+use lib.Dec.{leb}
+use lib.Seq.{length-take-le}
+use lib.ListN.{length, take, drop, replicate, length-replicate}
+use borrow.Author.Tests.{le-leb, lt-leb, leb-true}
+use Rattle.octets.specs.Octets.{over}
+use Rattle.rows.specs.Rows.{rowBytes, rowCount, rowsOf}
+use Rattle.echelon.specs.State.{stateBytes}
+use Rattle.echelon.specs.Eliminating.{absorbEach, emptied, eliminates, elimination}
+use Rattle.echelon.proofs.Fits.{both}
+
+pub record Eliminates (l m room : ℕ) : Type 0 where
+  pub some : 1 ≤ l
+  pub most : l ≤ 32
+  pub many : m ≤ 512
+  pub whole : stateBytes ≤ room
+
+pub eliminates-so : (l m room : ℕ) → eliminates l m room ≡ true → Eliminates l m room
+unfolding eliminates
+eliminates-so l m room e =
+    let a : ((leb 1 l && leb l 32) ≡ true) × ((leb m 512 && leb stateBytes room) ≡ true) = both _ _ e in
+    let b : (leb 1 l ≡ true) × (leb l 32 ≡ true) = both _ _ (a .0) in
+    let d : (leb m 512 ≡ true) × (leb stateBytes room ≡ true) = both _ _ (a .1) in
+    record { some = leb-true 1 l (b .0); most = leb-true l 32 (b .1); many = leb-true m 512 (d .0); whole = leb-true stateBytes room (d .1) }
+
+pub eliminates-when : (l m room : ℕ) → Eliminates l m room → eliminates l m room ≡ true
+unfolding eliminates
+eliminates-when l m room E = rw (le-leb 1 l (E .some)) (rw (le-leb l 32 (E .most)) (rw (le-leb m 512 (E .many)) (le-leb stateBytes room (E .whole))))
+
+-- the tests of the code, in its order
+module _ (l m room : ℕ) where
+  pub no-payload : l < 1 → false ≡ eliminates l m room
+  unfolding eliminates
+  no-payload h = rw (lt-leb 1 l h)
+
+  pub too-broad : 1 ≤ l → 32 < l → false ≡ eliminates l m room
+  unfolding eliminates
+  too-broad a h = rw (le-leb 1 l a) (rw (lt-leb l 32 h))
+
+  pub too-long-list : 1 ≤ l → l ≤ 32 → 512 < m → false ≡ eliminates l m room
+  unfolding eliminates
+  too-long-list a b h = rw (le-leb 1 l a) (rw (le-leb l 32 b) (rw (lt-leb m 512 h)))
+
+  pub eliminates-room : 1 ≤ l → l ≤ 32 → m ≤ 512 → leb stateBytes room ≡ eliminates l m room
+  unfolding eliminates
+  eliminates-room a b h = rw (le-leb 1 l a) (rw (le-leb l 32 b) (rw (le-leb m 512 h)))
+
+-- ---- the outcome
+
+module _ (l : ℕ) (list state : List ℕ) where
+  pub eliminated-so : eliminates l (rowCount l list) (length state) ≡ true
+      → absorbEach (rowBytes l) 0 (rowsOf l list) (record { state = emptied state; rank = 0 }) ≡ elimination l list state
+  unfolding elimination
+  eliminated-so e = rw e
+
+  pub eliminated-not : eliminates l (rowCount l list) (length state) ≡ false → record { state = state; rank = 0 } ≡ elimination l list state
+  unfolding elimination
+  eliminated-not e = rw e
+
+-- ---- the state made empty, as a part that came back
+
+pub emptied-is : (n : ℕ) (state new : List ℕ) → n ≡ stateBytes → stateBytes ≤ length state → new ≡ replicate (length (take n (drop 0 state))) 0
+    → take 0 state ++ (new ++ drop n (drop 0 state)) ≡ emptied state
+unfolding emptied over
+emptied-is n state new e h f =
+    let size : length (take n state) ≡ stateBytes = ap (λ (k : ℕ). length (take k state)) e ∙ length-take-le stateBytes state h in
+    rw (f ∙ ap (λ (k : ℕ). replicate k 0) size) (rw (length-replicate {A = ℕ} stateBytes 0) (rw e))

@@ -1,0 +1,5 @@
+pub mod Straying
+pub mod Gating
+pub mod Sifting
+pub mod Finishing
+pub mod Ending

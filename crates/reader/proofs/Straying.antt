@@ -1,0 +1,64 @@
+-- Looking for a stray bit row by row: what the loop knows before each row, and the constraint of a row's bytes.
+-- Assumes nothing.
+use mathlib.Core.Path.{_≡_, refl, sym, ap, _∙_}
+use Prim.Native.Nat.{ℕ, suc, _+_, _-_, _*_, _/_, _%_, _^_, _≤_, _<_}
+use native.Mathlib.Nat.{mod-eq-of-lt}
+use native.Mathlib.Omega.{arith}
+use native.Mathlib.Numerals.{add-one}
+use mathlib.Core.Bool.{true, false, cond}
+use mathlib.Core.List.{List}
+use lib.Dec.{leb}
+use lib.ListN.{length, getD, take, drop, length-drop, take-append-drop, drop-of-length-le}
+use lib.Pow.{high}
+use lib.Seq.{drop-cons, length-take-le}
+use Rattle.space.specs.Lists.{Below}
+use Rattle.octets.specs.Octets.{number}
+use Rattle.octets.proofs.Numbers.{number-append, number-lt}
+use Rattle.octets.proofs.Runs.{below-parts, getD-numbers}
+use Rattle.rows.specs.Rows.{rowBytes, rowCount, rowsOf, constraint}
+use Rattle.rows.proofs.Lists.{length-rowsOf}
+use Rattle.reading.specs.declared.Answer.the-variants as answer
+use Rattle.reading.specs.Outcome.{passes, refuses, strayFrom}
+
+-- the constraint is the number of the first eight bytes
+pub row-constraint : (row : List ℕ) → 8 ≤ length row → Below 256 row → constraint (length row - 8) (number row) ≡ number (take 8 row)
+unfolding constraint
+row-constraint row h b =
+    ap (λ (bytes : List ℕ). number bytes / 2 ^ (8 * (length row - 8))) (sym (take-append-drop 8 row))
+    ∙ rw (number-append (take 8 row) (drop 8 row)) (rw (length-drop 8 row)
+    (high (number (take 8 row)) (8 * (length row - 8)) (rw (length-drop 8 row) at (number-lt (drop 8 row) (below-parts 256 8 row b .1)))))
+
+module _ (n l : ℕ) (list : List ℕ) (i : ℕ) where
+  -- a row of the list, in bytes
+  pub row-at : i < rowCount l list → getD (rowsOf l list) i 0 ≡ number (take (rowBytes l) (drop (i * rowBytes l) list))
+  unfolding rowsOf
+  row-at h = getD-numbers (8 + l) (rowCount l list) list i h
+
+  module _ (h : i < rowCount l list) where
+    next : strayFrom n l i (drop i (rowsOf l list))
+        ≡ cond (leb (2 ^ n) (constraint l (getD (rowsOf l list) i 0))) (refuses (answer.Stray (record { 0 = i }))) (strayFrom n l (suc i) (drop (suc i) (rowsOf l list)))
+    next = ap (strayFrom n l i) (drop-cons (rowsOf l list) i 0 (rw (length-rowsOf l list) h)) ∙ unfold strayFrom in refl
+
+    pub stray-here : leb (2 ^ n) (constraint l (getD (rowsOf l list) i 0)) ≡ true → strayFrom n l i (drop i (rowsOf l list)) ≡ refuses (answer.Stray (record { 0 = i }))
+    stray-here e = next ∙ rw e
+
+    pub stray-later : leb (2 ^ n) (constraint l (getD (rowsOf l list) i 0)) ≡ false → strayFrom n l i (drop i (rowsOf l list)) ≡ strayFrom n l (i + 1) (drop (i + 1) (rowsOf l list))
+    stray-later e = next ∙ rw e (rw (add-one i))
+
+  pub stray-never : rowCount l list ≤ i → strayFrom n l i (drop i (rowsOf l list)) ≡ passes
+  stray-never h = ap (strayFrom n l i) (drop-of-length-le (rowsOf l list) {i = i} (rw (length-rowsOf l list) h)) ∙ unfold strayFrom in refl
+
+-- eight bytes are a number of 64 bits
+pub constraint-word : (row : List ℕ) → 8 ≤ length row → Below 256 row → number (take 8 row) % 2 ^ 64 ≡ constraint (length row - 8) (number row)
+constraint-word row h b =
+    let size : length (take 8 row) ≡ 8 = length-take-le 8 row h in
+    mod-eq-of-lt (rw size at (number-lt (take 8 row) (below-parts 256 8 row b .0))) ∙ sym (row-constraint row h b)
+
+-- the bytes of row i, as a part of the list of whatever length it is written
+pub part-asked : (n l : ℕ) (list : List ℕ) (i k : ℕ) → k ≡ rowBytes l → i * rowBytes l + rowBytes l ≤ length list → i < rowCount l list
+    → leb (2 ^ n) (constraint (length (take k (drop (i * rowBytes l) list)) - 8) (number (take k (drop (i * rowBytes l) list))))
+    ≡ leb (2 ^ n) (constraint l (getD (rowsOf l list) i 0))
+part-asked n l list i k e room h =
+    let size : length (take (8 + l) (drop (i * (8 + l)) list)) ≡ 8 + l = length-take-le (8 + l) (drop (i * (8 + l)) list) (omega (arith, length-drop (i * (8 + l)) list)) in
+    let small : 8 + l - 8 ≡ l = omega arith in
+    rw e (rw size (rw small (rw (row-at n l list i h))))

@@ -1,0 +1,248 @@
+// Reads a list of rows: the checks, then elimination, choice and solving.
+ghost use mathlib.Core.Path.{_≡_};
+ghost use Prim.Native.Nat.{_-_, _^_, _≤_};
+ghost use lib.Dec.{leb};
+ghost use lib.ListN.{length};
+ghost use Rattle.octets.specs.Octets.{number};
+ghost use Rattle.rows.specs.Rows.{rowCount, rowsOf, constraint};
+ghost use Rattle.reading.specs.Outcome.{strayFrom, checks, passes, read, outcome};
+ghost use Rattle.echelon.specs.State.{stateBytes};
+ghost use Rattle.reader.specs.Gate.{gate, listed, roomed, strayCheck};
+ghost use Rattle.reader.specs.Sift.{Listed, leastMarked, ChosenBy, SiftedBy};
+ghost use Rattle.reader.specs.Finish.{ends, finished, concluded, picks, Solvable, buffers, gives};
+use choose::Choice;
+use reading::Answer;
+use rows::Arrival;
+use solve::Solved;
+
+// What the checks 1 to 3 say.
+enum Gate {
+    Open,
+    Shape,
+    List,
+    Room,
+}
+
+fn list_fits(l: u8, list: usize) -> bool
+    ensures { λ r. ⌜ r ≡ listed l list ⌝ }
+{
+    let w = 8 + l as usize;
+    if list % w != 0 {
+        return false;
+    }
+    list / w <= 512
+}
+
+fn room_fits(bytes: usize, m: usize, page: usize, uses: usize, roles: usize, scratch: usize) -> bool
+    ensures { λ r. ⌜ r ≡ roomed bytes m page uses roles scratch ⌝ }
+{
+    if page < bytes {
+        return false;
+    }
+    if uses < m {
+        return false;
+    }
+    if roles < m {
+        return false;
+    }
+    32768 <= scratch
+}
+
+fn check(n: u8, l: u8, list: usize, page: usize, uses: usize, roles: usize, scratch: usize) -> Gate
+    ensures { λ r. ⌜ r ≡ gate n l list page uses roles scratch ⌝ }
+{
+    if !rows::shaped(n, l) {
+        return Gate::Shape;
+    }
+    if !list_fits(l, list) {
+        return Gate::List;
+    }
+    let m = list / (8 + l as usize);
+    if !room_fits(n as usize * l as usize, m, page, uses, roles, scratch) {
+        return Gate::Room;
+    }
+    Gate::Open
+}
+
+// The first row with a stray bit, if there is one.
+enum Stray {
+    At(Arrival),
+    Nowhere,
+}
+
+// Whether a row of a list has a stray bit.
+fn row_strays(row: &[u8], n: u8) -> bool
+    requires { ⌜ 8 ≤ length (now row) ⌝ }
+    ensures { λ r. ⌜ r ≡ leb (2 ^ n) (constraint (length (now (row .entry)) - 8) (number (now (row .entry)))) ⌝ }
+{
+    rows::strays(n, octets::get(&row[..8]))
+}
+
+fn first_stray(n: u8, l: u8, list: &[u8]) -> Stray
+    ensures { λ r. ⌜ strayCheck r ≡ strayFrom n l 0 (rowsOf l (now (list .entry))) ⌝ }
+{
+    let w = 8 + l as usize;
+    let m = list.len() / w;
+    let mut i: usize = 0;
+    while i < m {
+        let at = i * w;
+        let end = at + w;
+        if row_strays(&list[at..end], n) {
+            return Stray::At(Arrival(i));
+        }
+        i += 1;
+    }
+    Stray::Nowhere
+}
+
+// ---- rows that pass
+
+// The rank, and what the uses choose.
+struct Sifted {
+    rank: usize,
+    choice: Choice,
+}
+
+// The fewest uses of a row that is marked as picked.
+fn least_marked(choice: Choice) -> usize
+    ensures { λ r. ⌜ r ≡ leastMarked choice ⌝ }
+{
+    match choice {
+        Choice::Few => choose::NONE_PICKED,
+        Choice::Tie => choose::NONE_PICKED,
+        Choice::Picked(least) => least,
+    }
+}
+
+// Eliminates the rows of the list, and chooses among those kept.
+fn choose_rows(n: u8, l: u8, list: &[u8], state: &mut [u8]) -> Sifted
+    requires { ⌜ Listed l (now list) × (stateBytes ≤ length (now state)) ⌝ }
+    ensures { λ s. ⌜ ChosenBy n l (now (list .entry)) (now (state .exit)) (s .rank) (s .choice) ⌝ }
+{
+    let rank = echelon::eliminate(state, list, l);
+    let end = 25600 + 2 * rank;
+    let choice = choose::pick(n, &state[25600..end]);
+    Sifted { rank, choice }
+}
+
+// Elimination and choice, and the marks by arrival number.
+fn sift(n: u8, l: u8, list: &[u8], uses: &mut [u16], roles: &mut [u8], state: &mut [u8]) -> Sifted
+    requires { ⌜ Listed l (now list) × (stateBytes ≤ length (now state)) × (rowCount l (now list) ≤ length (now uses)) × (rowCount l (now list) ≤ length (now roles)) ⌝ }
+    ensures { λ s. ⌜ SiftedBy n (rowsOf l (now (list .entry))) (s .rank) (s .choice) (now (uses .entry)) (now (uses .exit)) (now (roles .entry)) (now (roles .exit)) ⌝ }
+{
+    let s = choose_rows(n, l, list, state);
+    let rank = s.rank;
+    let choice = s.choice;
+    let counts_end = 25600 + 2 * rank;
+    let flags_end = 26240 + list.len() / (8 + l as usize);
+    choose::mark(
+        &state[26240..flags_end],
+        &state[25600..counts_end],
+        least_marked(choice),
+        uses,
+        roles,
+    );
+    Sifted { rank, choice }
+}
+
+// Where n rows are picked: the page and the agreement, or singular.
+fn finish(
+    rank: usize,
+    n: u8,
+    l: u8,
+    list: &[u8],
+    roles: &[u8],
+    slots: &mut [u8],
+    page: &mut [u8],
+) -> Answer
+    requires { ⌜ Solvable n l (now list) (now roles) (now slots) (now page) ⌝ }
+    ensures { λ a. ⌜ ends a (now (page .exit)) ≡ finished n l (rowsOf l (now (list .entry))) rank (now (page .entry)) ⌝ }
+{
+    let solved = solve::solve(n, l, list, roles, slots, page);
+    match solved {
+        Solved::Page => {
+            let end = n as usize * l as usize;
+            let agreement = solve::agreement(l, list, &page[..end]);
+            Answer::Page { rank, agreement }
+        }
+        Solved::Singular => Answer::Singular { rank },
+        Solved::Misfit => Answer::Singular { rank },
+    }
+}
+
+// What the choice comes to.
+fn conclude(
+    choice: Choice,
+    rank: usize,
+    n: u8,
+    l: u8,
+    list: &[u8],
+    roles: &[u8],
+    slots: &mut [u8],
+    page: &mut [u8],
+) -> Answer
+    requires { ⌜ (picks choice → Solvable n l (now list) (now roles) (now slots) (now page)) ⌝ }
+    ensures { λ a. ⌜ ends a (now (page .exit)) ≡ concluded choice n l (rowsOf l (now (list .entry))) rank (now (page .entry)) ⌝ }
+{
+    match choice {
+        Choice::Few => Answer::Few { rank },
+        Choice::Tie => Answer::Tie { rank },
+        Choice::Picked(_) => finish(rank, n, l, list, roles, slots, page),
+    }
+}
+
+// Reads rows that pass the checks.
+fn read_rows(
+    n: u8,
+    l: u8,
+    list: &[u8],
+    page: &mut [u8],
+    uses: &mut [u16],
+    roles: &mut [u8],
+    scratch: &mut [u8],
+) -> Answer
+    requires { ⌜ checks n l (now list) (buffers (now page) (now uses) (now roles) (now scratch)) ≡ passes ⌝ }
+    ensures { λ a. ⌜ gives a (buffers (now (page .exit)) (now (uses .exit)) (now (roles .exit)) (now (scratch .exit)))
+        ≡ read n l (rowsOf l (now (list .entry))) (buffers (now (page .entry)) (now (uses .entry)) (now (roles .entry)) (now (scratch .entry))) ⌝ }
+{
+    let sifted = sift(n, l, list, uses, roles, &mut scratch[..26752]);
+    let rank = sifted.rank;
+    let choice = sifted.choice;
+    let end = 64 * (8 + l as usize);
+    let answer = conclude(choice, rank, n, l, list, roles, &mut scratch[..end], page);
+    octets::clear(&mut scratch[..32768]);
+    answer
+}
+
+// Reads a list: document 01, "How a list is read".
+pub fn read_list(
+    n: u8,
+    l: u8,
+    list: &[u8],
+    page: &mut [u8],
+    uses: &mut [u16],
+    roles: &mut [u8],
+    scratch: &mut [u8],
+) -> Answer
+    ensures { λ a. ⌜ gives a (buffers (now (page .exit)) (now (uses .exit)) (now (roles .exit)) (now (scratch .exit)))
+        ≡ outcome n l (now (list .entry)) (buffers (now (page .entry)) (now (uses .entry)) (now (roles .entry)) (now (scratch .entry))) ⌝ }
+{
+    match check(
+        n,
+        l,
+        list.len(),
+        page.len(),
+        uses.len(),
+        roles.len(),
+        scratch.len(),
+    ) {
+        Gate::Shape => return Answer::Shape,
+        Gate::List => return Answer::List,
+        Gate::Room => return Answer::Room,
+        Gate::Open => {}
+    }
+    match first_stray(n, l, list) {
+        Stray::At(arrival) => Answer::Stray(arrival),
+        Stray::Nowhere => read_rows(n, l, list, page, uses, roles, scratch),
+    }
+}

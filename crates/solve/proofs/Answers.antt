@@ -1,0 +1,92 @@
+-- For the picked rows of a list: `solve` answers Singular exactly where the reading is singular, and writes the reading's page else.
+-- Assumes nothing.
+use mathlib.Core.Path.{_≡_, refl, ap, _∙_}
+use Prim.Native.Nat.{ℕ, _+_, _*_, _^_, _≤_}
+use native.Mathlib.Nat.{lt-of-lt-of-le}
+use native.Mathlib.Omega.{arith}
+use mathlib.Core.Bool.{Bool, true, false, cond, not}
+use mathlib.Core.List.{List, [], _∷_, map}
+use lib.Dec.{eqb}
+use lib.ListN.{length}
+use lib.Pow.{pow-mono}
+use borrow.Author.Tests.{not-false}
+use Rattle.space.specs.Lists.{Below}
+use Rattle.space.specs.Space.{independent}
+use Rattle.space.proofs.Lists.{select-below}
+use Rattle.octets.specs.Octets.{flat, over}
+use Rattle.octets.proofs.Runs.{numbers-small}
+use Rattle.rows.specs.Rows.{rowCount, rowsOf, constraint}
+use Rattle.rows.proofs.Sums.{rows-lt}
+use Rattle.reading.specs.Reading.{pickedRows, pageOf, tie, singular}
+use Rattle.reading.specs.Outcome.{telling, rolesMarks}
+use Rattle.reading.proofs.Pick.{picked-size, picked-inside}
+use Rattle.solve.specs.declared.Solved.the-variants.{Page, Singular}
+use Rattle.solve.specs.Solve.{chosen, Filled, fill, empty, filled, pageIn, fits, solveAnswer, solvePage}
+use Rattle.solve.proofs.Filling.{Solving, fill-empty}
+use Rattle.solve.proofs.Pages.{page-right}
+use Rattle.solve.proofs.Chosen.{chosen-picked}
+
+twice : (b : Bool) → b ≡ not (not b)
+twice true = refl
+twice false = refl
+
+cond-not : (b : Bool) → cond (not b) Page Singular ≡ cond b Singular Page
+cond-not true = refl
+cond-not false = refl
+
+-- ---- rows whose constraints have n bits, at most 64
+
+below-more : (i j : ℕ) → i ≤ j → (xs : List ℕ) → Below (2 ^ i) xs → Below (2 ^ j) xs
+below-more i j h [] b = tt
+below-more i j h (x ∷ xs) b = (lt-of-lt-of-le (b .0) (pow-mono h), below-more i j h xs (b .1))
+
+module _ (n l : ℕ) (ps : List ℕ) (most : n ≤ 64) (inside : Below (2 ^ n) (map (constraint l) ps)) where
+  S : Solving l ps (fill l empty ps)
+  S = fill-empty l ps (below-more (n + 8 * l) (8 * l + 64) (omega arith) ps (rows-lt n l ps inside))
+
+  -- all go in exactly where their constraints are independent
+  pub fill-all : fill l empty ps .all ≡ independent (map (constraint l) ps)
+  fill-all = S .all
+
+  -- and where they are n, the page of the slots is the one that they give
+  pub fill-page : independent (map (constraint l) ps) ≡ true → length ps ≡ n → pageIn n l (fill l empty ps .slots) ≡ pageOf n l ps
+  fill-page free size = page-right n l ps (fill l empty ps .slots) (S .stand (fill-all ∙ free)) free inside size
+
+-- ---- the rows with role 2 of any list: all go in exactly where their constraints are independent
+
+pub solve-exactly : (l : ℕ) (list roles : List ℕ) → Below 256 list → filled l list roles .all ≡ independent (map (constraint l) (chosen roles (rowsOf l list)))
+unfolding filled chosen rowsOf
+solve-exactly l list roles b =
+    let wide : 8 * (8 + l) ≡ 8 * l + 64 = omega arith in
+    fill-empty l (chosen roles (rowsOf l list))
+    (select-below (2 ^ (8 * l + 64)) (map (λ role. eqb role 2) roles) (rowsOf l list) (rw wide at (numbers-small (8 + l) (rowCount l list) list b))) .all
+
+-- ---- the picked rows of a list, with its roles marked
+
+module _ (n l : ℕ) (list roles : List ℕ) (most : n ≤ 64) (inside : Below (2 ^ n) (map (constraint l) (rowsOf l list))) where
+  filled-picked : filled l list (over (rolesMarks telling n (rowsOf l list)) roles) ≡ fill l empty (pickedRows n (rowsOf l list))
+  unfolding filled
+  filled-picked = ap (fill l empty) (chosen-picked n (rowsOf l list) roles)
+
+  bits : Below (2 ^ n) (map (constraint l) (pickedRows n (rowsOf l list)))
+  bits = picked-inside n l (2 ^ n) (rowsOf l list) inside
+
+  -- all of them go in exactly where the reading is not singular
+  pub solve-all : filled l list (over (rolesMarks telling n (rowsOf l list)) roles) .all ≡ not (singular n l (rowsOf l list))
+  unfolding singular
+  solve-all =
+      ap (λ (f : Filled). f .all) filled-picked ∙ fill-all n l (pickedRows n (rowsOf l list)) most bits
+      ∙ twice (independent (map (constraint l) (pickedRows n (rowsOf l list))))
+
+  pub solve-answer : (slots page : List ℕ) → fits n l list (over (rolesMarks telling n (rowsOf l list)) roles) slots page ≡ true
+      → solveAnswer n l list (over (rolesMarks telling n (rowsOf l list)) roles) slots page ≡ cond (singular n l (rowsOf l list)) Singular Page
+  unfolding solveAnswer
+  solve-answer slots page fit = rw (fit, solve-all) (cond-not (singular n l (rowsOf l list)))
+
+  -- and then the page written is the reading's
+  pub solve-page : tie n (rowsOf l list) ≡ false → singular n l (rowsOf l list) ≡ false → (page : List ℕ)
+      → solvePage Page n l list (over (rolesMarks telling n (rowsOf l list)) roles) page ≡ over (flat l (pageOf n l (pickedRows n (rowsOf l list)))) page
+  unfolding solvePage singular
+  solve-page one free page =
+      ap (λ p. over (flat l p) page) (ap (λ (f : Filled). pageIn n l (f .slots)) filled-picked
+      ∙ fill-page n l (pickedRows n (rowsOf l list)) most bits (not-false (independent (map (constraint l) (pickedRows n (rowsOf l list)))) free) (picked-size n (rowsOf l list) one))

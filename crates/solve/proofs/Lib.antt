@@ -1,0 +1,15 @@
+pub mod Filling
+pub mod Pages
+pub mod Chosen
+pub mod Slots
+pub mod Offers
+pub mod Entering
+pub mod Walk
+pub mod Offering
+pub mod Units
+pub mod Writing
+pub mod Solves
+pub mod Outcomes
+pub mod Counting
+pub mod Settled
+pub mod Answers

@@ -1,0 +1,28 @@
+-- Each contract of this crate settles the answer and every lent byte.
+-- Assumes nothing.
+use mathlib.Core.Path.{_≡_, ap, _∙_}
+use mathlib.Core.List.{List}
+use Prim.Native.Nat.{ℕ}
+use Rattle.octets.proofs.Unique.{unique, Settles}
+use Rattle.solve.specs.declared.Solved.{Solved}
+use Rattle.solve.specs.Solve.{solveSlots, solvePage}
+use Rattle.solve.proofs.solve.Kinds as solve
+use Rattle.solve.proofs.solve.Reads as solve-contract
+use Rattle.solve.proofs.agreement.Kinds as agreement
+use Rattle.solve.proofs.agreement.Reads as agreement-contract
+
+slots-by : (r s : Solved) (l : ℕ) (slots now : List ℕ) → r ≡ s → now ≡ solveSlots r l slots → now ≡ solveSlots s l slots
+slots-by r s l slots now e f = f ∙ ap (λ a. solveSlots a l slots) e
+
+page-by : (r s : Solved) (n l : ℕ) (list roles page now : List ℕ) → r ≡ s → now ≡ solvePage r n l list roles page → now ≡ solvePage s n l list roles page
+page-by r s n l list roles page now e f = f ∙ ap (λ a. solvePage a n l list roles page) e
+
+pub solve-settled : Settles solve.ps solve.r solve-contract.Post
+solve-settled κs args =
+    unique (λ o is i. (
+      is .0 i,
+      (tt, (tt, (tt, (tt, (slots-by _ _ _ _ _ (is .0) (is .1 .0) i, (page-by _ _ _ _ _ _ _ _ (is .0) (is .1 .1) i, tt)))))),
+    ))
+
+pub agreement-settled : Settles agreement.ps agreement.r agreement-contract.Post
+agreement-settled κs args = unique (λ o is. ap (λ r. (r, (tt, (tt, (tt, tt))))) is)
