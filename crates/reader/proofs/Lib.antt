@@ -3,3 +3,4 @@ pub mod Gating
 pub mod Sifting
 pub mod Finishing
 pub mod Ending
+pub mod Settled
