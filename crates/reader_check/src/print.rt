@@ -1,0 +1,78 @@
+// A line for each reading: the numbers of its answer, and what each buffer holds afterwards.
+ghost use Prim.Native.Nat.{_≤_};
+use libc::STDOUT_FILENO;
+use reading::Answer;
+
+fn number(x: u64) {
+    io::print_decimal(STDOUT_FILENO, x);
+    io::write_all(STDOUT_FILENO, b" ");
+}
+
+// Number, rank, place and agreement.
+fn numbers(answer: Answer) -> [u64; 4] {
+    match answer {
+        Answer::Shape => [1, 0, 0, 0],
+        Answer::List => [2, 0, 0, 0],
+        Answer::Room => [3, 0, 0, 0],
+        Answer::Stray(arrival) => [4, 0, arrival.0 as u64, 0],
+        Answer::Few { rank } => [5, rank as u64, 0, 0],
+        Answer::Tie { rank } => [6, rank as u64, 0, 0],
+        Answer::Singular { rank } => [7, rank as u64, 0, 0],
+        Answer::Page { rank, agreement } => [0, rank as u64, 0, agreement as u64],
+    }
+}
+
+pub fn answer(answer: Answer) {
+    let four = numbers(answer);
+    let mut i: usize = 0;
+    while i < 4 {
+        number(four[i]);
+        i += 1;
+    }
+}
+
+fn byte(b: u8) {
+    number(b as u64);
+}
+
+fn word(w: u16) {
+    number(w as u64);
+}
+
+pub fn bytes(bytes: &[u8]) {
+    io::write_all(STDOUT_FILENO, b"| ");
+    let mut i: usize = 0;
+    while i < bytes.len() {
+        byte(bytes[i]);
+        i += 1;
+    }
+}
+
+pub fn words(words: &[u16]) {
+    io::write_all(STDOUT_FILENO, b"| ");
+    let mut i: usize = 0;
+    while i < words.len() {
+        word(words[i]);
+        i += 1;
+    }
+}
+
+fn one_if_zero(b: u8) -> usize
+    ensures { λ r. ⌜ r ≤ 1 ⌝ }
+{
+    if b == 0 { 1 } else { 0 }
+}
+
+// How many bytes of the scratch are zero, and how many are not, to the line's end.
+pub fn scratch(scratch: &[u8]) {
+    let mut zeros: usize = 0;
+    let mut i: usize = 0;
+    while i < scratch.len() {
+        zeros += one_if_zero(scratch[i]);
+        i += 1;
+    }
+    io::write_all(STDOUT_FILENO, b"| ");
+    number(zeros as u64);
+    number((scratch.len() - zeros) as u64);
+    io::write_all(STDOUT_FILENO, b"\n");
+}
