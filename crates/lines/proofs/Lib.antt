@@ -1,0 +1,8 @@
+pub mod Digits
+pub mod Unhexed
+pub mod Spelt
+pub mod Settled
+pub mod Takes
+pub mod Sound
+pub mod Order
+pub mod Results
