@@ -12,12 +12,13 @@ use lib.Seq.{length-take-le}
 use types.Run.{OneOf, miss}
 use denote.Enum.Declared.{tagOf}
 use borrow.Author.Tests.{ltb-false, not-false, le-ltb}
+use Rattle.octets.specs.Octets.{number}
 use Rattle.rows.specs.Rows.{shape}
 use Rattle.frame.specs.declared.fields.Field.{Field}
 use Rattle.frame.specs.declared.Frame.{Frame}
 use Rattle.frame.specs.declared.fields.Field.the-variants as field
 use Rattle.frame.specs.declared.Frame.the-variants as frames
-use Rattle.frame.specs.Layout.{pageAt, shapeAt, seedAt, payloadAt, frameLength}
+use Rattle.frame.specs.Layout.{pageAt, shapeAt, seedAt, payloadAt, frameLength, value}
 use Rattle.frame.specs.Reading.{fieldOf, placed, expected, behind, first, nOf, lOf, second, third, ended, fourth, good, fromShape, reading}
 use Rattle.frame.specs.Numbers.{numbersOf, refused, numberOf, placeOf, payloadOf}
 use Rattle.frame.proofs.Frame.{the-type}
@@ -29,7 +30,8 @@ abbrev pub isGood : Frame → Bool
 isGood f = eqb (numberOf f) 0
 
 -- the answers that code takes for a refusal
-pub refused-is : (f : Frame) → OneOf (1 ∷ 2 ∷ 3 ∷ 4 ∷ 5 ∷ []) (tagOf the-type f) → (isGood f ≡ false) × (numbersOf f ≡ refused (numberOf f) (placeOf f))
+pub refused-is : (f : Frame) → OneOf (1 ∷ 2 ∷ 3 ∷ 4 ∷ 5 ∷ []) (tagOf the-type f)
+    → (isGood f ≡ false) × (numbersOf f ≡ refused (numberOf f) (placeOf f))
 unfolding numbersOf
 refused-is (frames.Good page n l seed) o = absurd (miss (1 ∷ 2 ∷ 3 ∷ 4 ∷ 5 ∷ []) 0 tt o)
 refused-is (frames.Short place) o = (refl, refl)
@@ -102,19 +104,15 @@ module _ (frame : List ℕ) where
     values : good frame (nOf frame) (lOf frame) ≡ frames.Good page n l seed
     values = sym (fields-good fields) ∙ e
 
-    pub n-is : nOf frame ≡ n
+    pub values-are : (number (value frame pageAt 4) ≡ page) × (nOf frame ≡ n) × (lOf frame ≡ l) × (number (value frame seedAt 4) ≡ seed)
     unfolding good
-    n-is = cc values
-
-    pub l-is : lOf frame ≡ l
-    unfolding good
-    l-is = cc values
+    values-are = (cc values, cc values, cc values, cc values)
 
     pub good-long : length frame ≡ frameLength l
-    good-long = rw l-is at (fields .long)
+    good-long = rw (values-are .2) at (fields .long)
 
     pub good-shaped : shape n l ≡ true
-    good-shaped = rw (n-is, l-is) at (fields .shaped)
+    good-shaped = rw (values-are .1, values-are .2) at (fields .shaped)
 
     -- the payload has its l bytes
     pub good-payload : length (payloadOf frame) ≡ l

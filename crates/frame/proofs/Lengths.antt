@@ -28,8 +28,13 @@ shape-bytes n l hn hl = ap₂ (λ x y. x ∷ y ∷ []) (omega arith) (omega arit
 pub length-head : (page n l seed : ℕ) → length (headBytes page n l seed) ≡ payloadAt
 unfolding headBytes
 length-head page n l seed =
-    length-append (fieldBytes 1 (bytes 4 page)) _
-    ∙ omega (arith, number-field 1 4 page, length-append (fieldBytes 2 (n ∷ l ∷ [])) (fieldBytes 3 (bytes 4 seed)), length-field 2 (n ∷ l ∷ []), number-field 3 4 seed)
+    length-append (fieldBytes 1 (bytes 4 page)) _ ∙ omega (
+      arith,
+      number-field 1 4 page,
+      length-append (fieldBytes 2 (n ∷ l ∷ [])) (fieldBytes 3 (bytes 4 seed)),
+      length-field 2 (n ∷ l ∷ []),
+      number-field 3 4 seed,
+    )
 
 pub length-frame : (page n l seed : ℕ) (payload : List ℕ) → length payload ≡ l → length (frameBytes page n l seed payload) ≡ frameLength l
 unfolding frameBytes

@@ -6,6 +6,7 @@ pub mod Lengths
 pub mod Parts
 pub mod Writing
 pub mod Laying
+pub mod Exact
 pub mod ReadBack
 pub mod Crossing
 pub mod Settled

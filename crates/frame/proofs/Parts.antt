@@ -1,9 +1,9 @@
--- A buffer whose parts are lent and filled one after the other, from the front.
+-- A buffer whose parts are lent and filled one after the other, two or three of them, ends up as what they were filled with.
 -- Assumes nothing.
 use mathlib.Core.Path.{_≡_, ap, _∙_}
 use Prim.Native.Nat.{ℕ, _+_, _-_, _≤_}
 use native.Mathlib.Omega.{arith}
-use mathlib.Core.List.{List, _++_}
+use mathlib.Core.List.{List, _++_, append-assoc}
 use lib.ListN.{length, take, drop, length-append, length-drop}
 use lib.Seq.{length-take-le}
 use borrow.Rule.Slice.PartMut.{putMid}
@@ -20,23 +20,49 @@ unfolding lay
 back at k new old e = rw e
 
 -- the first part
-pub first-filled : (k : ℕ) (new old last : List ℕ) → last ≡ new → length new ≡ k → last ++ drop k old ≡ over new old
+pub begun-is : (k : ℕ) (new old last : List ℕ) → last ≡ new → length new ≡ k → last ++ drop k old ≡ over new old
 unfolding over
-first-filled k new old last e h = rw (e, h)
+begun-is k new old last e h = rw (e, h)
 
 -- the part right behind what is filled, and the part that fills the rest
-module _ (at : ℕ) (done new old now last : List ℕ) (so-far : now ≡ over done old) (long : length done ≡ at) (filled : last ≡ new) where
-  pub next-filled : (k : ℕ) → length new ≡ k → putMid at k now last ≡ over (done ++ new) old
-  next-filled k h = rw filled (back at k new now h ∙ ap (lay at new) so-far ∙ lay-over at done new old long)
+module _ (at : ℕ) (done old now : List ℕ) (so-far : now ≡ over done old) (long : length done ≡ at) where
+  next-is : (k : ℕ) (new last : List ℕ) → last ≡ new → length new ≡ k → putMid at k now last ≡ over (done ++ new) old
+  next-is k new last e h = rw e (back at k new now h ∙ ap (lay at new) so-far ∙ lay-over at done new old long)
 
-  pub rest-filled : at + length new ≡ length old → putMid at (length now - at) now last ≡ done ++ new
-  rest-filled h =
+  rest-long : (k : ℕ) → at + k ≡ length old → length (take (length now - at) (drop at now)) ≡ k
+  rest-long k h =
       let size : length now ≡ length old = ap length so-far ∙ length-over done old (omega arith) in
-      next-filled (length now - at) (omega arith) ∙ over-all (done ++ new) old (length-append done new ∙ omega arith)
+      part-long at (length now - at) now (omega arith) ∙ omega arith
 
--- how long the part is that is left to fill
-pub rest-long : (at k : ℕ) (done old now : List ℕ) → now ≡ over done old → length done ≤ length old → at + k ≡ length old
-    → length (take (length now - at) (drop at now)) ≡ k
-rest-long at k done old now so-far h e =
-    let size : length now ≡ length old = ap length so-far ∙ length-over done old h in
-    part-long at (length now - at) now (omega arith) ∙ omega arith
+  rest-is : (new last : List ℕ) → last ≡ new → at + length new ≡ length old → putMid at (length now - at) now last ≡ done ++ new
+  rest-is new last e h =
+      let size : length now ≡ length old = ap length so-far ∙ length-over done old (omega arith) in
+      next-is (length now - at) new last e (omega arith) ∙ over-all (done ++ new) old (length-append done new ∙ omega arith)
+
+-- Two parts: a, of k bytes, and the rest.
+module _ (k : ℕ) (a old x : List ℕ) (is-a : x ≡ a) (a-long : length a ≡ k) where
+  abbrev begun : List ℕ
+  begun = x ++ drop k old
+
+  pub second-long : (w : ℕ) → k + w ≡ length old → length (take (length begun - k) (drop k begun)) ≡ w
+  second-long = rest-long k a old begun (begun-is k a old x is-a a-long) a-long
+
+  pub two-filled : (b y : List ℕ) → y ≡ b → k + length b ≡ length old → putMid k (length begun - k) begun y ≡ a ++ b
+  two-filled = rest-is k a old begun (begun-is k a old x is-a a-long) a-long
+
+  -- Three parts: a, then b, of m bytes, and the rest.
+  module _ (m : ℕ) (b y : List ℕ) (is-b : y ≡ b) (b-long : length b ≡ m) where
+    abbrev going : List ℕ
+    going = putMid k m begun y
+
+    going-is : going ≡ over (a ++ b) old
+    going-is = next-is k a old begun (begun-is k a old x is-a a-long) a-long m b y is-b b-long
+
+    both-long : length (a ++ b) ≡ k + m
+    both-long = length-append a b ∙ omega arith
+
+    pub third-long : (w : ℕ) → k + m + w ≡ length old → length (take (length going - (k + m)) (drop (k + m) going)) ≡ w
+    third-long = rest-long (k + m) (a ++ b) old going going-is both-long
+
+    pub three-filled : (d z : List ℕ) → z ≡ d → k + m + length d ≡ length old → putMid (k + m) (length going - (k + m)) going z ≡ a ++ (b ++ d)
+    three-filled d z is-d h = rest-is (k + m) (a ++ b) old going going-is both-long d z is-d h ∙ append-assoc a b d

@@ -43,6 +43,8 @@ module _ (κs : Lfts 1) (args : Dens κs payload.ps) where
   abbrev pub Part : Type 0
   Part = Outcome payload.ps payload.r payload-contract.Post κs args
 
-  pub payload-settled : (o p : Part) → Allowed payload.ps payload.r payload-contract.Post κs args o → Allowed payload.ps payload.r payload-contract.Post κs args p
-      → (ptr (o .0) ≡ ptr (p .0)) × (now (o .0) ≡ now (p .0))
+  abbrev pub Right : Part → Type 0
+  Right = Allowed payload.ps payload.r payload-contract.Post κs args
+
+  pub payload-settled : (o p : Part) → Right o → Right p → (ptr (o .0) ≡ ptr (p .0)) × (now (o .0) ≡ now (p .0))
   payload-settled o p is so = (is .1 ∙ sym (so .1), is .0 ∙ sym (so .0))

@@ -1,9 +1,8 @@
 // Reads, writes and lays frames: the bytes that one phone shows and another reads. Document 01, "The frame".
 ghost use mathlib.Core.Path.{_≡_};
 ghost use Prim.Native.Nat.{_+_, _*_};
-ghost use mathlib.Core.Bool.{_&&_, true};
+ghost use mathlib.Core.Bool.{true};
 ghost use mathlib.Core.List.{_++_};
-ghost use lib.Dec.{leb};
 ghost use lib.ListN.{length};
 ghost use Rattle.octets.specs.Octets.{bytes};
 ghost use Rattle.rows.specs.Rows.{shape, rowBytes};
@@ -55,24 +54,6 @@ pub enum Laid {
 // "2, arrival number over 511".
 const LAST_ARRIVAL: usize = 511;
 
-fn within(x: u8, most: u8) -> bool
-    ensures { λ r. ⌜ r ≡ leb 1 x && leb x most ⌝ }
-{
-    if x < 1 {
-        return false;
-    }
-    x <= most
-}
-
-fn in_shape(n: u8, l: u8) -> bool
-    ensures { λ r. ⌜ r ≡ shape n l ⌝ }
-{
-    if within(n, 64) {
-        return within(l, 32);
-    }
-    false
-}
-
 // Reads a frame, left to right.
 pub fn read(frame: &[u8]) -> Frame
     ensures { λ r. ⌜ r ≡ reading (now (frame .entry)) ⌝ }
@@ -108,7 +89,7 @@ pub fn write(page_number: u32, n: u8, l: u8, seed: u32, page: &[u8], room: &mut 
     ensures answer { λ r. ⌜ r ≡ written n l (now (page .entry)) (now (room .entry)) ⌝ }
     ensures room { λ r. ⌜ now (room .exit) ≡ roomAfter r (frameOf «page_number» n l seed (now (page .entry))) (now (room .entry)) ⌝ }
 {
-    if !in_shape(n, l) {
+    if !rows::shaped(n, l) {
         return Written::Shape;
     }
     if page.len() != n as usize * l as usize {
@@ -155,7 +136,7 @@ pub fn lay(frame: &[u8], page_number: u32, n: u8, l: u8, arrival: Arrival, list:
     ensures answer { λ r. ⌜ r ≡ laid (now (frame .entry)) «page_number» n l (arrival .0) (now (list .entry)) ⌝ }
     ensures list { λ r. ⌜ now (list .exit) ≡ listAfter r (rowBytes l * arrival .0) (frameRow (now (frame .entry))) (now (list .entry)) ⌝ }
 {
-    if !in_shape(n, l) {
+    if !rows::shaped(n, l) {
         return Laid::Shape;
     }
     let found = read(frame);

@@ -62,7 +62,7 @@ pub(crate) fn from_shape(frame: &[u8]) -> Frame
     let shape = &frame[SHAPE..SEED_AT];
     let n = shape[0];
     let l = shape[1];
-    if crate::in_shape(n, l) {
+    if rows::shaped(n, l) {
         return from_seed(frame, n, l);
     }
     Frame::OutOfRange

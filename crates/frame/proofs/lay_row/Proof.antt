@@ -1,7 +1,9 @@
+-- `frame::lay_row` meets its contract: a law for each answer; the row comes back laid at its place.
+-- Assumes nothing.
 use mathlib.Core.Path.{_≡_, refl, sym, ap, _∙_}
 use Prim.Native.Nat.{_+_, _-_, _*_, _≤_}
-use native.Mathlib.Omega.{arith}
 use native.Mathlib.Nat.{mul-le-mul}
+use native.Mathlib.Omega.{arith}
 use mathlib.Core.List.{_++_}
 use lib.ListN.{length, length-append}
 use denote.Ref.{now}
@@ -12,40 +14,35 @@ use Rattle.rows.specs.Rows.{rowBytes}
 use Rattle.draw.specs.Draw.{constraint}
 use Rattle.frame.specs.Numbers.{payloadOf}
 use Rattle.frame.specs.Laying.{listAfter}
-use Rattle.frame.proofs.Parts.{part-long, back}
 use Rattle.frame.proofs.Draws.{draws-it, draws-one}
+use Rattle.frame.proofs.Parts.{part-long, back}
 use Rattle.frame.proofs.Laying.{placing-full, placing-room, placing-row}
 use Rattle.frame.proofs.lay_row.Statement.{statement}
 use Rattle.frame.proofs.lay_row.Tie as tie
 
+-- the row starts far below the largest number, whatever the list
+start-small : (c : tie.Else1) → rowBytes (c .before .before .before .args .l) * c .before .before .before .args .arrival .0 ≤ 263 * 511
+start-small c =
+    let a = c .before .before .before .args in
+    let wide : rowBytes (a .l) ≤ 263 = omega arith in
+    mul-le-mul wide (c .if1 .left)
+
 returns : tie.Need-returns
 unfolding listAfter
-returns c =
-    let a = c .before .before .before .args in
-    (sym (placing-full (a .l) (a .arrival .0) (now (a .list)) (c .if1 .taken)), refl)
+returns c = (sym (placing-full _ _ _ (c .if1 .taken)), refl)
 
 add-size : tie.Need-add-size
 add-size c = search needs
 
 mul-start : tie.Need-mul-start
-mul-start c =
-    let a = c .before .before .before .args in
-    let wide : 8 + a .l ≤ 263 = omega arith in
-    let few : a .arrival .0 ≤ 511 = omega arith in
-    omega (arith, mul-le-mul wide few)
+mul-start c = omega (arith, start-small c)
 
 add-end : tie.Need-add-end
-add-end c =
-    let a = c .before .before .before .args in
-    let wide : 8 + a .l ≤ 263 = omega arith in
-    let few : a .arrival .0 ≤ 511 = omega arith in
-    omega (arith, mul-le-mul wide few)
+add-end c = omega (arith, start-small c)
 
 returns-2 : tie.Need-returns-2
 unfolding listAfter
-returns-2 c =
-    let a = c .before .before .before .before .args in
-    (sym (placing-room (a .l) (a .arrival .0) (now (a .list)) (c .before .if1 .left) (c .if2 .taken)), refl)
+returns-2 c = (sym (placing-room _ _ _ (c .before .if1 .left) (c .if2 .taken)), refl)
 
 draw-requires : tie.Need-draw-requires
 draw-requires c κs = search needs
@@ -59,8 +56,7 @@ enum-told c = search needs
 returns-3 : tie.Need-returns-3
 returns-3 c =
     let start = c .before .before .before .before .before .before .before in
-    absurd (draws-one (start .args .n) (start .args .l) (start .args .seed) (start .pre .0)
-    (sym (c .before .before .draw .ensures) ∙ c .enum-told .given .1))
+    absurd (draws-one (start .args .n) (start .args .l) (start .args .seed) (start .pre .0) (sym (c .before .before .draw .ensures) ∙ c .enum-told .given .1))
 
 sub-put-row : tie.Need-sub-put-row
 sub-put-row c = search needs
@@ -87,15 +83,21 @@ same-length c = search needs
 returns-4 : tie.Need-returns-4
 unfolding listAfter
 returns-4 c =
-    let start = c .before .before .before .before .before .before .before .before .before .before .before .before .before in
+    let drawn = c .before .before .before .before .before .before in
+    let roomed = drawn .before .before .before in
+    let start = roomed .before .before .before .before in
     let a = start .args in
-    let drawn = draws-it (a .n) (a .l) (a .seed) (start .pre .0) _ (sym (c .before .before .before .before .before .before .before .before .draw .ensures) ∙ c .before .before .before .before .before .before .drawn .given .1) in
+    let is-drawn = draws-it (a .n) (a .l) (a .seed) (start .pre .0) _ (sym (drawn .before .before .draw .ensures) ∙ drawn .drawn .given .1) in
     let head = bytes 8 (constraint (a .n) (a .seed)) in
-    let row = head ++ payloadOf (now (a .frame)) in
+    let payload = payloadOf (now (a .frame)) in
+    let put : c .before .before .put-row .last .0 ≡ head ++ payload =
+    rw (is-drawn, c .before .before .before .payload .ensures .0) at (c .before .before .put-row .ensures) in
     let at = rowBytes (a .l) * a .arrival .0 in
-    let long : length row ≡ at + rowBytes (a .l) - at = length-append head (payloadOf (now (a .frame))) ∙ omega (arith, length-bytes 8 (constraint (a .n) (a .seed)), start .pre .1) in
-    let put : c .before .before .put-row .last .0 ≡ row = rw (drawn, c .before .before .before .payload .ensures .0) at (c .before .before .put-row .ensures) in
-    (sym (placing-row (a .l) (a .arrival .0) (now (a .list)) (c .before .before .before .before .before .before .before .before .before .before .if1 .left) (c .before .before .before .before .before .before .before .before .before .if2 .left)), rw put (back at _ row (now (a .list)) long))
+    let long : length (head ++ payload) ≡ at + rowBytes (a .l) - at =
+    length-append head payload ∙ omega (arith, length-bytes 8 (constraint (a .n) (a .seed)), start .pre .1) in (
+      sym (placing-row _ _ _ (roomed .before .if1 .left) (roomed .if2 .left)),
+      rw put (back at _ (head ++ payload) (now (a .list)) long),
+    )
 
 pub lay-row-spec : {M : Type 1} → statement M
 lay-row-spec =

@@ -1,7 +1,9 @@
+-- `frame::payload` meets its contract: of a refused frame the numbers of the answer, length and offset, are 0; a good one ends right behind
+-- its payload. Assumes nothing.
 use mathlib.Core.Path.{_≡_, sym, ap, _∙_}
 use Prim.Native.Nat.{ℕ, _+_, _-_}
-use native.Mathlib.Omega.{arith}
 use native.Mathlib.Nat.{zero-add, le-of-eq}
+use native.Mathlib.Omega.{arith}
 use denote.Ref.{now}
 use borrow.Author.Needs.{needs}
 use Rattle.frame.specs.Numbers.{Numbers, numbersOf, payloadOf}
@@ -40,16 +42,18 @@ part-result-start c = search needs
 
 part-result-end : tie.Need-part-result-end
 part-result-end c =
-    let l = c .before .found .given .0 .1 .1 .0 in
+    let found = c .before .found .given in
     let frame = now (c .before .before .before .before .before .args .frame) in
-    le-of-eq (sym (good-long frame _ _ l _ (sym (c .before .before .before .read .ensures) ∙ c .before .found .given .1)))
+    le-of-eq (sym (good-long frame _ _ _ _ (sym (c .before .before .before .read .ensures) ∙ found .1)))
 
 returns-2 : tie.Need-returns-2
 unfolding payloadOf numbersOf
 returns-2 c =
-    let e = sym (c .before .before .before .before .read .ensures) ∙ c .before .before .found .given .1 in
-    let size : 22 + c .before .before .found .given .0 .1 .1 .0 - 22 ≡ c .before .before .found .given .0 .1 .1 .0 = omega arith in
-    (rw (e, size), rw e)
+    let found = c .before .before .found .given in
+    let l = found .0 .1 .1 .0 in
+    let read = sym (c .before .before .before .before .read .ensures) ∙ found .1 in
+    let size : 22 + l - 22 ≡ l = omega arith in
+    (rw (read, size), rw read)
 
 pub payload-spec : {M : Type 1} → statement M
 payload-spec =

@@ -1,10 +1,17 @@
-use mathlib.Core.Path.{sym, _∙_}
+-- `frame::read` meets its contract: the first field, and behind it the rest.
+-- Assumes nothing.
+use mathlib.Core.Path.{_≡_, sym, _∙_}
 use denote.Ref.{now}
 use borrow.Author.Needs.{needs}
-use Rattle.frame.specs.Reading.{reading, first, behind}
+use Rattle.frame.specs.declared.fields.Found.the-variants.{Whole}
+use Rattle.frame.specs.Layout.{pageAt}
+use Rattle.frame.specs.Reading.{expected, behind, first, reading}
 use Rattle.frame.proofs.Whole.{expected-ends}
 use Rattle.frame.proofs.read.Statement.{statement}
 use Rattle.frame.proofs.read.Tie as tie
+
+page-whole : (c : tie.After-enum-told) → expected (now (c .before .before .before .before .args .frame)) pageAt 1 4 ≡ Whole
+page-whole c = sym (c .before .before .expect .ensures) ∙ c .enum-told .given .1
 
 expect-requires : tie.Need-expect-requires
 expect-requires c κs = search needs
@@ -20,11 +27,11 @@ enum-told : tie.Need-enum-told
 enum-told c = search needs
 
 from-shape-requires : tie.Need-from-shape-requires
-from-shape-requires c κs = expected-ends (now (c .before .before .before .before .args .frame)) 0 1 4 (sym (c .before .before .expect .ensures) ∙ c .enum-told .given .1)
+from-shape-requires c κs = expected-ends (now (c .before .before .before .before .args .frame)) pageAt 1 4 (page-whole c)
 
 returns-2 : tie.Need-returns-2
 unfolding reading first behind
-returns-2 c = rw (sym (c .before .before .before .expect .ensures) ∙ c .before .enum-told .given .1) (c .from-shape .ensures)
+returns-2 c = rw (page-whole (c .before)) (c .from-shape .ensures)
 
 pub read-spec : {M : Type 1} → statement M
 read-spec =

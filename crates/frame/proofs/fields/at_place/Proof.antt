@@ -1,40 +1,34 @@
+-- `frame::fields::at_place` meets its contract: each arm of its match is a clause of the definition.
+-- Assumes nothing.
 use borrow.Author.Needs.{needs}
 use Rattle.frame.specs.Reading.{placed}
 use Rattle.frame.proofs.fields.at_place.Statement.{statement}
 use Rattle.frame.proofs.fields.at_place.Tie as tie
 
--- src/lib.rt:42:25
 enum-told : tie.Need-enum-told
 enum-told c = search needs
 
--- src/lib.rt:43:40
 enum-told-2 : tie.Need-enum-told-2
 enum-told-2 c = search needs
 
--- src/lib.rt:44:43
 enum-told-3 : tie.Need-enum-told-3
 enum-told-3 c = search needs
 
--- src/lib.rt:45:46
 enum-told-4 : tie.Need-enum-told-4
 enum-told-4 c = search needs
 
--- src/lib.rt:38:1
 returns : tie.Need-returns
 unfolding placed
 returns c = rw (c .enum-told .given .1)
 
--- src/lib.rt:38:1
 returns-2 : tie.Need-returns-2
 unfolding placed
 returns-2 c = rw (c .enum-told2 .given .1)
 
--- src/lib.rt:38:1
 returns-3 : tie.Need-returns-3
 unfolding placed
 returns-3 c = rw (c .enum-told3 .given .1)
 
--- src/lib.rt:38:1
 returns-4 : tie.Need-returns-4
 unfolding placed
 returns-4 c = rw (c .enum-told4 .given .1)

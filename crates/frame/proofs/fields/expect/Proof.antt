@@ -1,3 +1,5 @@
+-- `frame::fields::expect` meets its contract: the part that it looks at is what remains of the frame.
+-- Assumes nothing.
 use denote.Ref.{now}
 use borrow.Author.Needs.{needs}
 use Rattle.frame.specs.Reading.{expected}
@@ -22,15 +24,11 @@ at-place-requires c κs = search needs
 
 returns : tie.Need-returns
 unfolding expected
-returns c = let a = c .before .before .before .before .args in rw (c .at-place .ensures, c .before .look .ensures, part-rest (a .at) (now (a .frame)))
+returns c =
+    let a = c .before .before .before .before .args in
+    rw (c .at-place .ensures, c .before .look .ensures, part-rest (a .at) (now (a .frame)))
 
 pub expect-spec : {M : Type 1} → statement M
 expect-spec =
     tie.close
-    (tie.spec
-    sub-look
-    part-look-start
-    part-look-end
-    look-requires
-    at-place-requires
-    returns)
+    (tie.spec sub-look part-look-start part-look-end look-requires at-place-requires returns)

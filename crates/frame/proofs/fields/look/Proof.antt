@@ -1,3 +1,5 @@
+-- `frame::fields::look` meets its contract: it makes the definition's tests in the definition's order.
+-- Assumes nothing.
 use mathlib.Core.Path.{_≡_, sym, _∙_}
 use Prim.Native.Nat.{_+_, _≤_, _<_}
 use native.Mathlib.Omega.{arith}
@@ -12,10 +14,11 @@ use Rattle.frame.proofs.Whole.{number-part}
 use Rattle.frame.proofs.fields.look.Statement.{statement}
 use Rattle.frame.proofs.fields.look.Tie as tie
 
-size-of : (c : tie.After-get) → c .get .result ≡ number (take 2 (drop 1 (now (c .before .before .before .before .before .before .args .rest))))
-size-of c =
-    c .get .ensures
-    ∙ number-part 1 2 8 (now (c .before .before .before .before .before .before .args .rest)) (known-below (now (c .before .before .before .before .before .before .args .rest)) (c .before .before .before .before .before .shared-slice-known .given)) (omega arith)
+-- the length that the field states
+stated : (c : tie.After-get) → c .get .result ≡ number (take 2 (drop 1 (now (c .before .before .before .before .before .before .args .rest))))
+stated c =
+    let rest = now (c .before .before .before .before .before .before .args .rest) in
+    c .get .ensures ∙ number-part 1 2 8 rest (known-below rest (c .before .before .before .before .before .shared-slice-known .given)) (omega arith)
 
 returns : tie.Need-returns
 unfolding fieldOf
@@ -42,7 +45,9 @@ get-requires c κs = search needs
 
 returns-3 : tie.Need-returns-3
 unfolding fieldOf
-returns-3 c = rw (le-ltb _ _ (c .before .before .before .before .before .if1 .left), eq-eqb _ _ (c .before .before .before .if2 .left), ne-eqb _ _ (λ e. c .if3 .taken (size-of (c .before) ∙ e)))
+returns-3 c =
+    let tested = c .before .before .before in
+    rw (le-ltb _ _ (tested .before .before .if1 .left), eq-eqb _ _ (tested .if2 .left), ne-eqb _ _ (λ e. c .if3 .taken (stated (c .before) ∙ e)))
 
 sub-if4 : tie.Need-sub-if4
 sub-if4 c = search needs
@@ -50,16 +55,28 @@ sub-if4 c = search needs
 returns-4 : tie.Need-returns-4
 unfolding fieldOf
 returns-4 c =
-    let start = c .before .before .before .before .before .before .before .before .args in
+    let tested = c .before .before .before .before in
+    let start = tested .before .before .before .before .args in
     let cut : length (now (start .rest)) < 3 + start .size = omega arith in
-    rw (le-ltb _ _ (c .before .before .before .before .before .before .if1 .left), eq-eqb _ _ (c .before .before .before .before .if2 .left), eq-eqb _ _ (sym (size-of (c .before .before)) ∙ c .before .if3 .left), lt-ltb _ _ cut)
+    rw (
+      le-ltb _ _ (tested .before .before .if1 .left),
+      eq-eqb _ _ (tested .if2 .left),
+      eq-eqb _ _ (sym (stated (c .before .before)) ∙ c .before .if3 .left),
+      lt-ltb _ _ cut,
+    )
 
 returns-5 : tie.Need-returns-5
 unfolding fieldOf
 returns-5 c =
-    let start = c .before .before .before .before .before .before .before .before .args in
+    let tested = c .before .before .before .before in
+    let start = tested .before .before .before .before .args in
     let there : 3 + start .size ≤ length (now (start .rest)) = omega arith in
-    rw (le-ltb _ _ (c .before .before .before .before .before .before .if1 .left), eq-eqb _ _ (c .before .before .before .before .if2 .left), eq-eqb _ _ (sym (size-of (c .before .before)) ∙ c .before .if3 .left), le-ltb _ _ there)
+    rw (
+      le-ltb _ _ (tested .before .before .if1 .left),
+      eq-eqb _ _ (tested .if2 .left),
+      eq-eqb _ _ (sym (stated (c .before .before)) ∙ c .before .if3 .left),
+      le-ltb _ _ there,
+    )
 
 pub look-spec : {M : Type 1} → statement M
 look-spec =

@@ -1,16 +1,17 @@
-use mathlib.Core.Path.{sym, _∙_}
-use Prim.Native.Nat.{_≤_}
-use lib.ListN.{length}
+-- `frame::parse::from_shape` meets its contract: behind the whole second field it takes n and l from the field's value and tests them.
+-- Assumes nothing.
+use mathlib.Core.Path.{_≡_, sym, _∙_}
 use denote.Ref.{now}
 use borrow.Author.Needs.{needs}
-use Rattle.frame.specs.Layout.{value}
-use Rattle.frame.specs.Reading.{fromShape, second, behind, nOf, lOf}
+use Rattle.frame.specs.declared.fields.Found.the-variants.{Whole}
+use Rattle.frame.specs.Layout.{shapeAt, value}
+use Rattle.frame.specs.Reading.{expected, behind, nOf, lOf, second, fromShape}
 use Rattle.frame.proofs.Whole.{expected-ends}
 use Rattle.frame.proofs.parse.from_shape.Statement.{statement}
 use Rattle.frame.proofs.parse.from_shape.Tie as tie
 
-whole : (c : tie.After-enum-told) → 12 ≤ length (now (c .before .before .before .before .args .frame))
-whole c = expected-ends (now (c .before .before .before .before .args .frame)) 7 2 2 (sym (c .before .before .expect .ensures) ∙ c .enum-told .given .1)
+shape-whole : (c : tie.After-enum-told) → expected (now (c .before .before .before .before .args .frame)) shapeAt 2 2 ≡ Whole
+shape-whole c = sym (c .before .before .expect .ensures) ∙ c .enum-told .given .1
 
 expect-requires : tie.Need-expect-requires
 expect-requires c κs = search needs
@@ -32,7 +33,7 @@ part-shape-start : tie.Need-part-shape-start
 part-shape-start c = search needs
 
 part-shape-end : tie.Need-part-shape-end
-part-shape-end c = whole c
+part-shape-end c = expected-ends (now (c .before .before .before .before .args .frame)) shapeAt 2 2 (shape-whole c)
 
 shared-slice-read-n : tie.Need-shared-slice-read-n
 shared-slice-read-n c = search needs
@@ -40,26 +41,28 @@ shared-slice-read-n c = search needs
 shared-slice-read-l : tie.Need-shared-slice-read-l
 shared-slice-read-l c = search needs
 
-in-shape-requires : tie.Need-in-shape-requires
-in-shape-requires c κs = search needs
+shaped-requires : tie.Need-shaped-requires
+shaped-requires c κs = search needs
 
 from-seed-requires : tie.Need-from-seed-requires
-from-seed-requires c κs = whole (c .before .before .before .before .before)
+from-seed-requires c κs =
+    let told = c .before .before .before .before .before in
+    expected-ends (now (told .before .before .before .before .args .frame)) shapeAt 2 2 (shape-whole told)
 
 returns-2 : tie.Need-returns-2
 unfolding fromShape second behind nOf lOf value
 returns-2 c =
     rw (
-      sym (c .before .before .before .before .before .before .before .before .expect .ensures) ∙ c .before .before .before .before .before .before .enum-told .given .1,
-      sym (c .before .before .in-shape .ensures) ∙ c .before .if1 .taken,
+      shape-whole (c .before .before .before .before .before .before),
+      sym (c .before .before .shaped .ensures) ∙ c .before .if1 .taken,
     ) (c .from-seed .ensures)
 
 returns-3 : tie.Need-returns-3
 unfolding fromShape second behind nOf lOf value
 returns-3 c =
     rw (
-      sym (c .before .before .before .before .before .before .before .expect .ensures) ∙ c .before .before .before .before .before .enum-told .given .1,
-      sym (c .before .in-shape .ensures) ∙ c .if1 .left,
+      shape-whole (c .before .before .before .before .before),
+      sym (c .before .shaped .ensures) ∙ c .if1 .left,
     )
 
 pub from-shape-spec : {M : Type 1} → statement M
@@ -75,7 +78,7 @@ from-shape-spec =
     part-shape-end
     shared-slice-read-n
     shared-slice-read-l
-    in-shape-requires
+    shaped-requires
     from-seed-requires
     returns-2
     returns-3)

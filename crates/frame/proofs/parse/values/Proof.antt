@@ -1,3 +1,5 @@
+-- `frame::parse::values` meets its contract: past the last test it reads each number from its field's value.
+-- Assumes nothing.
 use native.Mathlib.Omega.{arith}
 use denote.Ref.{now}
 use borrow.Author.Needs.{needs}
@@ -43,11 +45,11 @@ number-of-requires-2 c κs = search needs
 returns-2 : tie.Need-returns-2
 unfolding ended good value
 returns-2 c =
-    let start = c .before .before .before .before .before .before in
-    let frame = now (start .args .frame) in
-    let below = known-below frame (c .before .before .before .before .before .shared-slice-known .given) in
+    let tested = c .before .before .before .before in
+    let frame = now (tested .before .before .args .frame) in
+    let below = known-below frame (tested .before .shared-slice-known .given) in
     rw (
-      le-ltb _ _ (c .before .before .before .before .if1 .left),
+      le-ltb _ _ (tested .if1 .left),
       c .before .before .number-of .ensures,
       c .number-of2 .ensures,
       number-part 3 4 4 frame below (omega arith),

@@ -1,12 +1,15 @@
-use mathlib.Core.Path.{sym}
+-- `frame::put::put_field` meets its contract: two parts, tag and length and then the value.
+-- Assumes nothing.
+use mathlib.Core.Path.{sym, ap, _∙_}
+use Prim.Native.Nat.{ℕ}
 use native.Mathlib.Omega.{arith}
 use denote.Ref.{now}
 use borrow.Author.Needs.{needs}
 use Rattle.octets.specs.Octets.{bytes}
 use Rattle.octets.proofs.Numbers.{length-bytes}
 use Rattle.frame.specs.Layout.{mark, fieldBytes}
-use Rattle.frame.proofs.Parts.{part-long, first-filled, rest-filled, rest-long}
 use Rattle.frame.proofs.Lengths.{length-mark}
+use Rattle.frame.proofs.Parts.{part-long, second-long, two-filled}
 use Rattle.frame.proofs.put.put_field.Statement.{statement}
 use Rattle.frame.proofs.put.put_field.Tie as tie
 
@@ -39,11 +42,12 @@ unfolding fieldBytes
 returns c =
     let a = c .before .before .before .before .before .before .before .before .before .args in
     let into = now (a .into) in
-    let marked = first-filled 3 (mark (a .tag) (a .size)) into (c .before .before .before .before .before .before .put-mark .last .0) (c .before .before .before .before .before .before .put-mark .ensures) (length-mark (a .tag) (a .size)) in
-    let value = rw (rest-long 3 (a .size) (mark (a .tag) (a .size)) into _ marked (omega (arith, length-mark (a .tag) (a .size))) (omega arith)) at (c .before .before .put .ensures) in
+    let marked = c .before .before .before .before .before .before .put-mark in
+    let mark-long = length-mark (a .tag) (a .size) in
     let wide = length-bytes (a .size) (a .value) in
-    rw wide (rest-filled 3 (mark (a .tag) (a .size)) (bytes (a .size) (a .value)) into _ (c .before .before .put .last .0) marked (length-mark (a .tag) (a .size)) value
-    (omega (arith, wide)))
+    let left = second-long 3 (mark (a .tag) (a .size)) into (marked .last .0) (marked .ensures) mark-long (a .size) (omega arith) in
+    let put = c .before .before .put .ensures ∙ ap (λ (w : ℕ). bytes w (a .value)) left in
+    rw wide (two-filled 3 (mark (a .tag) (a .size)) into (marked .last .0) (marked .ensures) mark-long (bytes (a .size) (a .value)) _ put (omega (arith, wide)))
 
 pub put-field-spec : {M : Type 1} → statement M
 put-field-spec =

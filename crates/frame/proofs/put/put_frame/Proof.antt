@@ -1,14 +1,15 @@
+-- `frame::put::put_frame` meets its contract: three parts, the head, the payload's tag and length, and the sum.
+-- Assumes nothing.
 use mathlib.Core.Path.{_≡_, sym, _∙_}
 use native.Mathlib.Omega.{arith}
-use mathlib.Core.List.{_++_, append-assoc}
-use lib.ListN.{length, length-append}
+use lib.ListN.{length}
 use denote.Ref.{now}
 use borrow.Author.Needs.{needs}
 use Rattle.octets.proofs.Numbers.{length-bytes}
 use Rattle.frame.specs.Layout.{mark, fieldBytes, headBytes, frameBytes}
 use Rattle.frame.specs.Writing.{sumBytes}
-use Rattle.frame.proofs.Parts.{part-long, first-filled, next-filled, rest-filled, rest-long}
 use Rattle.frame.proofs.Lengths.{length-mark, length-head}
+use Rattle.frame.proofs.Parts.{part-long, third-long, three-filled}
 use Rattle.frame.proofs.Writing.{sum-is}
 use Rattle.frame.proofs.put.put_frame.Statement.{statement}
 use Rattle.frame.proofs.put.put_frame.Tie as tie
@@ -54,19 +55,19 @@ unfolding frameBytes fieldBytes sumBytes
 returns c =
     let start = c .before .before .before .before .before .before .before .before .before .before .before .before .before .before in
     let a = start .args in
+    let head = c .before .before .before .before .before .before .before .before .before .before .put-head in
+    let marked = c .before .before .before .before .before .before .put-mark in
     let into = now (a .into) in
-    let head = headBytes (a .page-number) (a .n) (a .l) (a .seed) in
+    let front = headBytes (a .page-number) (a .n) (a .l) (a .seed) in
+    let front-long = length-head (a .page-number) (a .n) (a .l) (a .seed) in
     let payload = sumBytes (a .n) (a .l) (now (a .page)) (a .constraint) in
-    let head-long = length-head (a .page-number) (a .n) (a .l) (a .seed) in
-    let mark-long = length-mark 4 (a .l) in
-    let front-long : length (head ++ mark 4 (a .l)) ≡ 22 = length-append head (mark 4 (a .l)) ∙ omega (arith, head-long, mark-long) in
     let payload-long : length payload ≡ a .l = length-bytes (a .l) _ in
-    let first = first-filled 19 head into (c .before .before .before .before .before .before .before .before .before .before .put-head .last .0) (c .before .before .before .before .before .before .before .before .before .before .put-head .ensures) head-long in
-    let second = next-filled 19 head (mark 4 (a .l)) into _ (c .before .before .before .before .before .before .put-mark .last .0) first head-long (c .before .before .before .before .before .before .put-mark .ensures) 3 mark-long in
-    let left = rest-long 22 (a .l) (head ++ mark 4 (a .l)) into _ second (omega (arith, front-long, start .pre .0)) (omega (arith, start .pre .0)) in
+    let left = third-long 19 front into (head .last .0) (head .ensures) front-long 3 (mark 4 (a .l)) (marked .last .0) (marked .ensures) (length-mark 4 (a .l))
+    (a .l) (omega (arith, start .pre .0)) in
     let summed = c .before .before .sum .ensures ∙ sum-is (a .n) (a .l) _ (now (a .page)) (a .constraint) (start .pre .1) left (start .pre .2) in
-    rw payload-long (rest-filled 22 (head ++ mark 4 (a .l)) payload into _ (c .before .before .sum .last .0) second front-long summed (omega (arith, payload-long, start .pre .0))
-    ∙ append-assoc head (mark 4 (a .l)) payload)
+    rw payload-long
+    (three-filled 19 front into (head .last .0) (head .ensures) front-long 3 (mark 4 (a .l)) (marked .last .0) (marked .ensures) (length-mark 4 (a .l))
+    payload (c .before .before .sum .last .0) summed (omega (arith, payload-long, start .pre .0)))
 
 pub put-frame-spec : {M : Type 1} → statement M
 put-frame-spec =

@@ -1,13 +1,14 @@
-use mathlib.Core.Path.{sym, _∙_}
+-- `frame::put::put_head` meets its contract: three parts, a field each; n and L are the two bytes of one number.
+-- Assumes nothing.
+use mathlib.Core.Path.{sym}
 use native.Mathlib.Omega.{arith}
-use mathlib.Core.List.{[], _∷_, _++_, append-assoc}
-use lib.ListN.{length-append}
+use mathlib.Core.List.{[], _∷_}
 use denote.Ref.{now}
 use borrow.Author.Needs.{needs}
 use Rattle.octets.specs.Octets.{bytes}
 use Rattle.frame.specs.Layout.{fieldBytes, headBytes}
-use Rattle.frame.proofs.Parts.{part-long, first-filled, next-filled, rest-filled}
 use Rattle.frame.proofs.Lengths.{number-field, length-field, shape-bytes}
+use Rattle.frame.proofs.Parts.{part-long, three-filled}
 use Rattle.frame.proofs.put.put_head.Statement.{statement}
 use Rattle.frame.proofs.put.put_head.Tie as tie
 
@@ -57,18 +58,13 @@ returns : tie.Need-returns
 unfolding headBytes
 returns c =
     let a = c .before .before .before .before .before .before .before .before .before .before .before .before .before .args in
-    let into = now (a .into) in
-    let one = fieldBytes 1 (bytes 4 (a .page-number)) in
-    let two = fieldBytes 2 (a .n ∷ a .l ∷ []) in
-    let three = fieldBytes 3 (bytes 4 (a .seed)) in
+    let one = c .before .before .before .before .before .before .before .before .before .before .put-field in
+    let two = c .before .before .before .before .before .before .put-field2 in
+    let three = c .before .before .put-field3 in
     let shape = shape-bytes (a .n) (a .l) (search needs) (search needs) in
-    let one-long = number-field 1 4 (a .page-number) in
-    let two-long = length-field 2 (a .n ∷ a .l ∷ []) in
-    let first = first-filled 7 one into (c .before .before .before .before .before .before .before .before .before .before .put-field .last .0) (c .before .before .before .before .before .before .before .before .before .before .put-field .ensures) one-long in
-    let second = next-filled 7 one two into _ (c .before .before .before .before .before .before .put-field2 .last .0) first one-long (rw shape at (c .before .before .before .before .before .before .put-field2 .ensures)) 5 two-long in
-    rest-filled 12 (one ++ two) three into _ (c .before .before .put-field3 .last .0) second (length-append one two ∙ omega (arith, one-long, two-long)) (c .before .before .put-field3 .ensures)
-    (omega (arith, number-field 3 4 (a .seed)))
-    ∙ append-assoc one two three
+    three-filled 7 (fieldBytes 1 (bytes 4 (a .page-number))) (now (a .into)) (one .last .0) (one .ensures) (number-field 1 4 (a .page-number))
+    5 (fieldBytes 2 (a .n ∷ a .l ∷ [])) (two .last .0) (rw shape at (two .ensures)) (length-field 2 (a .n ∷ a .l ∷ []))
+    (fieldBytes 3 (bytes 4 (a .seed))) (three .last .0) (three .ensures) (omega (arith, number-field 3 4 (a .seed)))
 
 pub put-head-spec : {M : Type 1} → statement M
 put-head-spec =

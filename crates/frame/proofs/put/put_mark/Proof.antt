@@ -1,22 +1,20 @@
-use mathlib.Core.Path.{_≡_, refl, _∙_}
-use Prim.Native.Nat.{ℕ, _-_, _<_}
+-- `frame::put::put_mark` meets its contract: the tag, and behind it the two bytes of the length.
+-- Assumes nothing.
+use mathlib.Core.Path.{_≡_, refl, ap, _∙_}
+use Prim.Native.Nat.{ℕ, _-_}
 use native.Mathlib.Omega.{arith}
-use mathlib.Core.List.{List, [], _∷_}
-use lib.ListN.{length, take, drop, set, length-set}
+use mathlib.Core.List.{[], _∷_, _++_}
+use lib.ListN.{length, drop, set, length-set}
 use lib.Seq.{set-split}
 use denote.Ref.{now}
 use borrow.Author.Needs.{needs}
 use borrow.Rule.Slice.PartMut.{same-len-mid}
-use Rattle.octets.specs.Octets.{bytes, over}
+use Rattle.octets.specs.Octets.{bytes}
 use Rattle.octets.proofs.Numbers.{length-bytes}
 use Rattle.frame.specs.Layout.{mark}
-use Rattle.frame.proofs.Parts.{part-long, rest-filled}
+use Rattle.frame.proofs.Parts.{second-long, two-filled}
 use Rattle.frame.proofs.put.put_mark.Statement.{statement}
 use Rattle.frame.proofs.put.put_mark.Tie as tie
-
-tagged-is : (tag : ℕ) (into : List ℕ) → 0 < length into → set into 0 tag ≡ over (tag ∷ []) into
-unfolding over
-tagged-is tag into h = set-split into 0 tag h
 
 slice-write-into : tie.Need-slice-write-into
 slice-write-into c = search needs
@@ -35,20 +33,19 @@ put-requires c κs = search needs
 
 same-length : tie.Need-same-length
 same-length c =
-    let start = c .before .before .before .before .before .args in
-    let tagged = set (now (start .into)) 0 (start .tag) in
-    same-len-mid 1 (length tagged - 1) tagged (c .before .before .put .last .0) (c .before .before .put .kept .0) ∙ length-set (now (start .into)) 0 (start .tag)
+    let a = c .before .before .before .before .before .args in
+    let tagged = set (now (a .into)) 0 (a .tag) in
+    same-len-mid 1 (length tagged - 1) tagged (c .before .before .put .last .0) (c .before .before .put .kept .0) ∙ length-set (now (a .into)) 0 (a .tag)
 
 returns : tie.Need-returns
 unfolding mark
 returns c =
-    let start = c .before .before .before .before .before in
-    let into = now (start .args .into) in
-    let tagged : set into 0 (start .args .tag) ≡ over (start .args .tag ∷ []) into = tagged-is (start .args .tag) into (omega arith) in
-    let size : length (set into 0 (start .args .tag)) - 1 ≡ 2 = simp length-set (omega arith) in
-    let wide : length (take 2 (drop 1 (set into 0 (start .args .tag)))) ≡ 2 = part-long 1 2 (set into 0 (start .args .tag)) (simp length-set (omega arith)) in
-    rest-filled 1 (start .args .tag ∷ []) (bytes 2 (start .args .size)) into (set into 0 (start .args .tag)) (c .before .before .put .last .0) tagged refl
-    (rw (size, wide) at (c .before .before .put .ensures)) (omega (arith, length-bytes 2 (start .args .size)))
+    let a = c .before .before .before .before .before .args in
+    let into = now (a .into) in
+    let tagged : set into 0 (a .tag) ≡ (a .tag ∷ []) ++ drop 1 into = set-split into 0 (a .tag) (omega arith) in
+    let left = second-long 1 (a .tag ∷ []) into (a .tag ∷ []) refl refl 2 (omega arith) in
+    let put = rw tagged at (c .before .before .put .ensures) ∙ ap (λ (w : ℕ). bytes w (a .size)) left in
+    rw tagged (two-filled 1 (a .tag ∷ []) into (a .tag ∷ []) refl refl (bytes 2 (a .size)) _ put (omega (arith, length-bytes 2 (a .size))))
 
 pub put-mark-spec : {M : Type 1} → statement M
 put-mark-spec =

@@ -1,6 +1,8 @@
+-- `frame::put::put_row` meets its contract: two parts, the constraint and the payload, which fills the rest.
+-- Assumes nothing.
 use mathlib.Core.Path.{_≡_, sym, _∙_}
-use Prim.Native.Nat.{ℕ, _-_}
 use native.Mathlib.Omega.{arith}
+use Prim.Native.Nat.{ℕ, _-_}
 use mathlib.Core.List.{List, _++_}
 use lib.ListN.{length, take, drop}
 use lib.Seq.{take-all}
@@ -9,7 +11,7 @@ use borrow.Author.Needs.{needs}
 use Rattle.octets.specs.Octets.{bytes, over}
 use Rattle.octets.proofs.Numbers.{length-bytes}
 use Rattle.octets.proofs.Lay.{over-all}
-use Rattle.frame.proofs.Parts.{part-long, first-filled, rest-filled, rest-long}
+use Rattle.frame.proofs.Parts.{part-long, second-long, two-filled}
 use Rattle.frame.proofs.put.put_row.Statement.{statement}
 use Rattle.frame.proofs.put.put_row.Tie as tie
 
@@ -46,12 +48,13 @@ returns c =
     let a = c .before .before .before .before .before .before .before .before .before .before .args in
     let row = now (a .row) in
     let payload = now (a .payload) in
-    let head = bytes 8 (a .constraint) in
-    let head-long = length-bytes 8 (a .constraint) in
-    let begun = c .before .before .before .before .before .before .put .last .0 ++ drop 8 row in
-    let first : begun ≡ over head row = first-filled 8 head row (c .before .before .before .before .before .before .put .last .0) (rw (part-long 0 8 row (omega arith)) at (c .before .before .before .before .before .before .put .ensures)) head-long in
-    let left = rest-long 8 (length payload) head row begun first (omega (arith, head-long)) (omega arith) in
-    rest-filled 8 head payload row begun (c .before .before .copy .last .0) first head-long
+    let put = c .before .before .before .before .before .before .put in
+    let front = bytes 8 (a .constraint) in
+    let front-long = length-bytes 8 (a .constraint) in
+    let is-front = rw (part-long 0 8 row (omega arith)) at (put .ensures) in
+    let left = second-long 8 front row (put .last .0) is-front front-long (length payload) (omega arith) in
+    let begun = put .last .0 ++ drop 8 row in
+    two-filled 8 front row (put .last .0) is-front front-long payload (c .before .before .copy .last .0)
     (c .before .before .copy .ensures ∙ copied (take (length begun - 8) (drop 8 begun)) payload left) (omega arith)
 
 pub put-row-spec : {M : Type 1} → statement M
