@@ -20,6 +20,7 @@ pub(crate) enum Found {
     Refused(Frame),
 }
 
+// What remains of the frame is looked at from its first byte on.
 fn look(rest: &[u8], tag: u8, size: u8) -> Field
     ensures { λ r. ⌜ r ≡ fieldOf (now (rest .entry)) tag size ⌝ }
 {

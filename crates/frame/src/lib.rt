@@ -99,6 +99,7 @@ pub fn write(page_number: u32, n: u8, l: u8, seed: u32, page: &[u8], room: &mut 
     if room.len() < end {
         return Written::Room;
     }
+    // A shape in range always draws one.
     let drawn = draw::draw(n, seed);
     let Drawn::Constraint(constraint) = drawn else {
         return Written::Shape;
@@ -123,6 +124,7 @@ fn lay_row(frame: &[u8], n: u8, l: u8, seed: u32, arrival: Arrival, list: &mut [
     if list.len() < end {
         return Laid::Room;
     }
+    // A shape in range always draws one.
     let drawn = draw::draw(n, seed);
     let Drawn::Constraint(constraint) = drawn else {
         return Laid::Shape;

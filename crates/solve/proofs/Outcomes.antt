@@ -6,8 +6,8 @@ use native.Mathlib.Omega.{arith}
 use mathlib.Core.Bool.{Bool, true, false, not}
 use mathlib.Core.List.{List, _++_}
 use lib.Dec.{leb}
-use lib.ListN.{length, take, drop, replicate, length-replicate}
-use lib.Seq.{length-take-le}
+use lib.ListN.{length, take, drop, replicate, length-append, length-replicate}
+use lib.Seq.{take-at, drop-at, length-take-le}
 use borrow.Author.Tests.{leb-true, not-true, not-false}
 use Rattle.octets.specs.Octets.{over}
 use Rattle.octets.proofs.Lay.{over-back}
@@ -72,23 +72,31 @@ module _ (n l : ℕ) (list roles slots page : List ℕ) where
     pub roomy : Roomy (8 + l) n list roles page
     roomy = record { known = F .known; small = F .range .n-high; room = rw (back l) (F .room) }
 
-    module _ (b : Bool) (part page′ : List ℕ) (answer : b ≡ fillFrom (8 + l) list roles .all)
-        (paged : page′ ≡ pageAfter (fillFrom (8 + l) list roles) n (8 + l - 8) page) (cleared : part ≡ replicate (length (take (64 * (8 + l)) slots)) 0) where
-      went : b ≡ filled l list roles .all
-      went = answer ∙ ap (λ (f : Filled). f .all) (filled-from l list roles)
+    module _ (after : List ℕ) (same : length after ≡ length (take (64 * (8 + l)) slots)) where
+      pub after-long : 64 * (8 + l) ≤ length (after ++ drop (64 * (8 + l)) slots)
+      after-long = omega (arith, length-append after (drop (64 * (8 + l)) slots), same, part-long)
 
-      page-is : page′ ≡ pageAfter (filled l list roles) n l page
-      page-is = paged ∙ rw (filled-from l list roles, back l)
+      module _ (b : Bool) (part page′ : List ℕ) (answer : b ≡ fillFrom (8 + l) list roles .all)
+          (paged : page′ ≡ pageAfter (fillFrom (8 + l) list roles) n (8 + l - 8) page)
+          (cleared : part ≡ replicate (length (take (64 * (8 + l)) (after ++ drop (64 * (8 + l)) slots))) 0) where
+        went : b ≡ filled l list roles .all
+        went = answer ∙ ap (λ (f : Filled). f .all) (filled-from l list roles)
 
-      slots-are : part ++ drop (64 * (8 + l)) slots ≡ over (replicate (slotBytes l) 0) slots
-      unfolding slotBytes
-      slots-are =
-          rw (cleared, part-long) (over-back (64 * (8 + l)) (replicate (64 * (8 + l)) 0) slots (length-replicate {A = ℕ} (64 * (8 + l)) 0))
+        page-is : page′ ≡ pageAfter (filled l list roles) n l page
+        page-is = paged ∙ rw (filled-from l list roles, back l)
 
-      pub outcome-page : b ≡ true → Outcome n l list roles slots page Page (part ++ drop (64 * (8 + l)) slots) page′
-      unfolding solveAnswer solveSlots solvePage
-      outcome-page y = let all : filled l list roles .all ≡ true = sym went ∙ y in (rw (F .fit, all), (slots-are, page-is ∙ rw all))
+        slots-are : part ++ drop (64 * (8 + l)) (after ++ drop (64 * (8 + l)) slots) ≡ over (replicate (slotBytes l) 0) slots
+        unfolding slotBytes
+        slots-are =
+            let long : length after ≡ 64 * (8 + l) = same ∙ part-long in
+            rw (drop-at after (drop (64 * (8 + l)) slots) (64 * (8 + l)) long)
+            (rw (cleared ∙ ap (λ t. replicate {A = ℕ} (length t) 0) (take-at after (drop (64 * (8 + l)) slots) (64 * (8 + l)) long), long)
+            (over-back (64 * (8 + l)) (replicate (64 * (8 + l)) 0) slots (length-replicate {A = ℕ} (64 * (8 + l)) 0)))
 
-      pub outcome-singular : b ≡ false → Outcome n l list roles slots page Singular (part ++ drop (64 * (8 + l)) slots) page′
-      unfolding solveAnswer solveSlots solvePage
-      outcome-singular y = let none : filled l list roles .all ≡ false = sym went ∙ y in (rw (F .fit, none), (slots-are, page-is ∙ rw none))
+        pub outcome-page : b ≡ true → Outcome n l list roles slots page Page (part ++ drop (64 * (8 + l)) (after ++ drop (64 * (8 + l)) slots)) page′
+        unfolding solveAnswer solveSlots solvePage
+        outcome-page y = let all : filled l list roles .all ≡ true = sym went ∙ y in (rw (F .fit, all), (slots-are, page-is ∙ rw all))
+
+        pub outcome-singular : b ≡ false → Outcome n l list roles slots page Singular (part ++ drop (64 * (8 + l)) (after ++ drop (64 * (8 + l)) slots)) page′
+        unfolding solveAnswer solveSlots solvePage
+        outcome-singular y = let none : filled l list roles .all ≡ false = sym went ∙ y in (rw (F .fit, none), (slots-are, page-is ∙ rw none))

@@ -55,6 +55,7 @@ filled l list roles = fill l empty (chosen roles (rowsOf l list))
 unfoldable pub symbolIn : ℕ → List ℕ → ℕ → ℕ
 symbolIn l slots k = payload l (pass (8 * l) slots (2 ^ k * 2 ^ (8 * l)) .vector)
 
+-- The n of them.
 unfoldable pub pageIn : ℕ → ℕ → List ℕ → List ℕ
 pageIn n l slots = tabulate n (symbolIn l slots)
 
@@ -69,6 +70,7 @@ unfoldable pub fits : ℕ → ℕ → List ℕ → List ℕ → List ℕ → Lis
 fits n l list roles slots page =
     shape n l && (wholeRows l list && (leb (rowCount l list) (length roles) && (leb (slotBytes l) (length slots) && leb (n * l) (length page))))
 
+-- Where it all fits, whether all rows with role 2 went in: "7 singular: picked constraints dependent".
 unfoldable pub solveAnswer : ℕ → ℕ → List ℕ → List ℕ → List ℕ → List ℕ → Solved
 solveAnswer n l list roles slots page = cond (fits n l list roles slots page) (cond (filled l list roles .all) Page Singular) Misfit
 

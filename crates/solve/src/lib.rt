@@ -3,7 +3,7 @@ ghost use mathlib.Core.Path.{_≡_};
 ghost use mathlib.Core.Bool.{true};
 ghost use mathlib.Core.List.{[], _∷_};
 ghost use Prim.Native.Nat.{_+_, _-_, _*_, _/_, _≤_, _<_};
-ghost use lib.ListN.{length, set, replicate};
+ghost use lib.ListN.{length, set};
 ghost use Rattle.octets.specs.Octets.{number, bytes, flat, over};
 ghost use Rattle.rows.specs.Rows.{rowsOf};
 ghost use Rattle.rows.specs.Make.{cut};
@@ -12,7 +12,7 @@ ghost use Rattle.reading.specs.Outcome.{wholeRows};
 ghost use Rattle.solve.specs.Solve.{chosen, symbolIn, pageIn, fits, solveAnswer, solvePage, solveSlots, agreementOf};
 ghost use Rattle.solve.specs.Parts.{Ready, slotsIn, rowsIn, Fills, unitOf, Roomy, fillFrom, pageAfter};
 
-// What came of solving.
+// What came of solving. Page and Singular are document 01's answers 0 and 7; Misfit is for arguments that do not fit.
 pub enum Solved {
     Page,
     Singular,
@@ -144,18 +144,22 @@ fn write_page(
     true
 }
 
-// The same with work of its own, for rows of w bytes, and the lent slots are cleared at the end.
-fn solve_in(page: &mut [u8], lent: &mut [u8], list: &[u8], roles: &[u8], n: usize, w: usize) -> bool
-    requires { ⌜ (8 ≤ w) × (w ≤ 40) × (length (now lent) ≡ 64 * w) ⌝ }
+// The same with work of its own, for rows of w bytes.
+fn solve_in(
+    page: &mut [u8],
+    slots: &mut [u8],
+    list: &[u8],
+    roles: &[u8],
+    n: usize,
+    w: usize,
+) -> bool
+    requires { ⌜ (8 ≤ w) × (w ≤ 40) × (length (now slots) ≡ 64 * w) ⌝ }
     requires { ⌜ Roomy w n (now list) (now roles) (now page) ⌝ }
     ensures answer { λ r. ⌜ r ≡ fillFrom w (now (list .entry)) (now (roles .entry)) .all ⌝ }
     ensures page { λ _. ⌜ now (page .exit) ≡ pageAfter (fillFrom w (now (list .entry)) (now (roles .entry))) n (w - 8) (now (page .entry)) ⌝ }
-    ensures slots { λ _. ⌜ now (lent .exit) ≡ replicate (length (now (lent .entry))) 0 ⌝ }
 {
     let mut work = [0u8; 40];
-    let all = write_page(page, &mut work[..w], lent, list, roles, n);
-    octets::clear(lent);
-    all
+    write_page(page, &mut work[..w], slots, list, roles, n)
 }
 
 // Whether a list has whole rows, at most 512.
@@ -201,11 +205,9 @@ pub fn solve(n: u8, l: u8, list: &[u8], roles: &[u8], slots: &mut [u8], page: &m
     }
     let w = 8 + (l as usize);
     let end = 64 * w;
-    if solve_in(page, &mut slots[..end], list, roles, n as usize, w) {
-        Solved::Page
-    } else {
-        Solved::Singular
-    }
+    let all = solve_in(page, &mut slots[..end], list, roles, n as usize, w);
+    octets::clear(&mut slots[..end]);
+    if all { Solved::Page } else { Solved::Singular }
 }
 
 // ---- the agreement

@@ -1,6 +1,6 @@
--- `solve_in` meets its contract: what is written goes by the rows alone, and the slots are cleared whatever went in.
+-- `solve_in` meets its contract: work has the bytes of a row, and the rest is `write_page`.
 -- Assumes nothing.
-use mathlib.Core.Path.{_≡_, refl, sym, ap, _∙_}
+use mathlib.Core.Path.{_≡_, refl, sym}
 use Prim.Native.Nat.{ℕ, _≤_}
 use native.Mathlib.Omega.{arith}
 use borrow.Author.Needs.{needs}
@@ -9,12 +9,11 @@ use lib.Seq.{length-take-le}
 use Rattle.solve.proofs.solve_in.Statement.{statement}
 use Rattle.solve.proofs.solve_in.Tie as tie
 
--- work has the bytes of a row
 size : (w : ℕ) → w ≤ 40 → length (take {A = ℕ} w (replicate 40 0)) ≡ w
 size w h = length-take-le w (replicate 40 0) (omega arith)
 
 array-borrow-prefix-work : tie.Need-array-borrow-prefix-work
-array-borrow-prefix-work c = c .before .before .before .before .before .pre .0 .1
+array-borrow-prefix-work c = search needs
 
 slice-aggregate-write-page : tie.Need-slice-aggregate-write-page
 slice-aggregate-write-page c =
@@ -27,9 +26,6 @@ write-page-requires c κs =
     let e = size (S .args .w) (S .pre .0 .1) in
     (record { least = rw e (S .pre .0 .0); most = rw e (S .pre .0 .1); one = refl; all = rw e (S .pre .0 .2) }, rw e (S .pre .1))
 
-clear-requires : tie.Need-clear-requires
-clear-requires c κs = search needs
-
 same-length : tie.Need-same-length
 same-length c = search needs
 
@@ -38,10 +34,10 @@ same-length-2 c = search needs
 
 returns : tie.Need-returns
 returns c =
-    let S = c .before .before .before .before .before .before .before .before .before .before .before .before .before .before .before .before .before in
-    let p = c .before .before .before .before .before .before .before .before .before .write-page in
+    let S = c .before .before .before .before .before .before .before .before .before .before .before .before .before in
+    let p = c .before .before .before .before .before .write-page in
     let e = size (S .args .w) (S .pre .0 .1) in
-    (rw e at (p .ensures .0), (rw e at (p .ensures .1), c .before .before .clear .ensures ∙ ap (λ (j : ℕ). replicate {A = ℕ} j 0) (p .kept .1 .1 .0)))
+    (rw e at (p .ensures .0), rw e at (p .ensures .1))
 
 pub solve-in-spec : {M : Type 1} → statement M
 solve-in-spec =
@@ -50,7 +46,6 @@ solve-in-spec =
     array-borrow-prefix-work
     slice-aggregate-write-page
     write-page-requires
-    clear-requires
     same-length
     same-length-2
     returns)
