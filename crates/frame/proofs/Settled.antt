@@ -17,6 +17,10 @@ use Rattle.frame.proofs.write.Kinds as write
 use Rattle.frame.proofs.write.Reads as write-contract
 use Rattle.frame.proofs.lay.Kinds as lay
 use Rattle.frame.proofs.lay.Reads as lay-contract
+use Rattle.frame.proofs.numbers.numbers_of.Kinds as numbers-of
+use Rattle.frame.proofs.numbers.numbers_of.Reads as numbers-of-contract
+use Rattle.frame.proofs.numbers.told_by.Kinds as told-by
+use Rattle.frame.proofs.numbers.told_by.Reads as told-by-contract
 
 -- an answer, and a buffer that the answer decides
 decided : {A B C : Type 0} (join : A → B → C) (after : A → B) {a b : A} {v : B} → a ≡ b → v ≡ after a → join a v ≡ join b (after b)
@@ -36,6 +40,12 @@ lay-settled κs args =
     unique (λ o is. decided (λ r v. (r, (tt, (tt, (tt, (tt, (tt, (v, tt))))))))
     (λ r. listAfter r (rowBytes (args .1 .1 .1 .0) * args .1 .1 .1 .1 .0 .0) (frameRow (now (args .0))) (now (args .1 .1 .1 .1 .1 .0)))
     (is .0) (is .1))
+
+pub numbers-of-settled : Settles numbers-of.ps numbers-of.r numbers-of-contract.Post
+numbers-of-settled κs args = unique (λ o is. ap (λ r. (r, (tt, tt))) is)
+
+pub told-by-settled : Settles told-by.ps told-by.r told-by-contract.Post
+told-by-settled κs args = unique (λ o is. ap (λ r. (r, (tt, tt))) is)
 
 -- Where the part that `payload` hands back points, and what it shows. (Its ghost name, the third thing of a reference in the logic, is
 -- nothing that a program can see.)

@@ -1,21 +1,13 @@
--- Document 01's number, place and values for each answer of reading a frame, and the payload that goes with it.
+-- Document 01's number, place and values for each answer of reading a frame, and the payload that goes with it: the part of l bytes at the
+-- offset.
 use Prim.Native.Nat.{ℕ, _+_}
 use mathlib.Core.List.{List}
 use lib.ListN.{take, drop}
 use Rattle.frame.specs.declared.Frame.{Frame}
 use Rattle.frame.specs.declared.Frame.the-variants.{Good, Short, WrongTag, WrongLength, OutOfRange, Trailing}
+use Rattle.frame.specs.declared.numbers.Numbers.{Numbers}
 use Rattle.frame.specs.Layout.{shapeAt, payloadAt}
 use Rattle.frame.specs.Reading.{reading}
-
--- What a reading gives; the payload is the part of l bytes at the offset.
-pub record Numbers : Type 0 where
-  pub number : ℕ
-  pub place : ℕ
-  pub page : ℕ
-  pub n : ℕ
-  pub l : ℕ
-  pub seed : ℕ
-  pub offset : ℕ
 
 -- "A refusal gives all other numbers as 0." Its payload is "the empty part at its start".
 abbrev pub refused : ℕ → ℕ → Numbers

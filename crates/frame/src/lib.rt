@@ -14,6 +14,7 @@ ghost use Rattle.frame.specs.Laying.{placing, laid, frameRow, listAfter}
 
 mod fields;
 mod layout;
+mod numbers;
 mod parse;
 mod put;
 
@@ -21,6 +22,10 @@ use draw::Drawn;
 use fields::Found;
 use layout::PAGE_AT;
 use layout::PAYLOAD;
+pub use numbers::Numbers;
+pub use numbers::Told;
+pub use numbers::numbers_of;
+pub use numbers::told_by;
 use rows::Arrival;
 
 // The answer of reading; specs/Numbers.antt gives document 01's number, place and values for each case.

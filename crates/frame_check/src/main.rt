@@ -5,7 +5,6 @@ ghost use Prim.Native.Nat.{_+_, _<_, _≤_};
 ghost use lib.ListN.{length};
 
 mod base;
-mod numbers;
 mod print;
 
 use base::BASES;

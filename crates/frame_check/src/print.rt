@@ -2,8 +2,7 @@
 ghost use Prim.Native.Nat.{_<_, _≤_};
 ghost use lib.ListN.{length};
 use crate::base::Base;
-use crate::numbers::of_laying;
-use crate::numbers::of_reading;
+use frame::Numbers;
 use libc::STDOUT_FILENO;
 use rows::Arrival;
 
@@ -36,18 +35,20 @@ fn bytes(bytes: &[u8]) {
     io::write_all(STDOUT_FILENO, b"\n");
 }
 
-fn numbers(numbers: &[u64]) {
-    let mut i: usize = 0;
-    while i < numbers.len() {
-        number(numbers[i]);
-        i += 1;
-    }
+// Number, place, page number, n, L, seed and the payload's offset.
+fn numbers(numbers: Numbers) {
+    number(numbers.number as u64);
+    number(numbers.place as u64);
+    number(numbers.page as u64);
+    number(numbers.n as u64);
+    number(numbers.l as u64);
+    number(numbers.seed as u64);
+    number(numbers.offset as u64);
 }
 
-// Number, place, page number, n, L, seed, the payload's offset and the payload.
+// The numbers, and the payload.
 pub fn reading(frame: &[u8]) {
-    let line = of_reading(frame::read(frame));
-    numbers(&line);
+    numbers(frame::numbers_of(frame::read(frame)));
     let payload = frame::payload(frame);
     if payload.len() == 0 {
         io::write_all(STDOUT_FILENO, b"-");
@@ -66,8 +67,9 @@ fn laying_in(list: &mut [u8], frame: &[u8], b: Base, arrival: usize, size: usize
         Arrival(arrival),
         &mut list[0..size],
     );
-    let line = of_laying(answer);
-    numbers(&line);
+    let told = frame::told_by(answer);
+    number(told.number as u64);
+    number(told.place as u64);
     bytes(&list[0..size]);
 }
 

@@ -49,37 +49,30 @@ pub struct Taken {
     pub sheet: Sheet,
 }
 
+// The result of a number and a place.
+fn line_of(number: u8, place: usize) -> Line
+    ensures { λ r. ⌜ r ≡ spec.result number place ⌝ }
+{
+    if number == 0 {
+        return Line::Row;
+    }
+    Line::Refused(number, place)
+}
+
 // The result that a reading is, by document 01's number and place.
 fn line_of_frame(found: Frame) -> Line
     ensures { λ r. ⌜ r ≡ spec.result (frames.numberOf found) (frames.placeOf found) ⌝ }
 {
-    match found {
-        Frame::Good {
-            page: _,
-            n: _,
-            l: _,
-            seed: _,
-        } => Line::Row,
-        Frame::Short(place) => Line::Refused(11, place),
-        Frame::WrongTag(place) => Line::Refused(12, place),
-        Frame::WrongLength(place) => Line::Refused(13, place),
-        Frame::OutOfRange => Line::Refused(14, 7),
-        Frame::Trailing(place) => Line::Refused(15, place),
-    }
+    let numbers = frame::numbers_of(found);
+    line_of(numbers.number, numbers.place)
 }
 
 // The same of laying.
 fn line_of_laid(answer: Laid) -> Line
     ensures { λ r. ⌜ r ≡ spec.result (laying.numberOf answer) (laying.placeOf answer) ⌝ }
 {
-    match answer {
-        Laid::Row => Line::Row,
-        Laid::Shape => Line::Refused(1, 0),
-        Laid::Refused(found) => line_of_frame(found),
-        Laid::OtherPage => Line::Refused(16, 0),
-        Laid::Full => Line::Refused(2, 0),
-        Laid::Room => Line::Refused(3, 0),
-    }
+    let told = frame::told_by(answer);
+    line_of(told.number, told.place)
 }
 
 // "The first good frame sets the expected page number, n and L."

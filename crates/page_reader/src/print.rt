@@ -1,16 +1,11 @@
 // The lines of the output, each written at once. The texts have room for the longest line, whatever its numbers are.
-ghost use mathlib.Core.Path.{_≡_};
 ghost use Prim.Native.Nat.{_≤_};
 ghost use lib.ListN.{length};
-ghost use Rattle.reading.specs.Answer.{numbersOf, gives};
 use libc::STDOUT_FILENO;
 use lines::Line;
 use lines::Page;
 use lines::Spelled;
 use reading::Answer;
-
-// Document 01's number, rank, place and agreement of an answer.
-struct Numbers(u8, usize, usize, usize);
 
 fn least(a: usize, b: usize) -> usize
     ensures { λ r. ⌜ r ≤ b ⌝ }
@@ -67,32 +62,17 @@ pub(crate) fn result(number: u64, line: Line) {
     write(&text, end);
 }
 
-fn numbers_of(answer: Answer) -> Numbers
-    ensures { λ r. ⌜ numbersOf answer ≡ gives (r .0) (r .1) (r .2) (r .3) ⌝ }
-{
-    match answer {
-        Answer::Page { rank, agreement } => Numbers(0, rank, 0, agreement),
-        Answer::Shape => Numbers(1, 0, 0, 0),
-        Answer::List => Numbers(2, 0, 0, 0),
-        Answer::Room => Numbers(3, 0, 0, 0),
-        Answer::Stray(arrival) => Numbers(4, 0, arrival.0, 0),
-        Answer::Few { rank } => Numbers(5, rank, 0, 0),
-        Answer::Tie { rank } => Numbers(6, rank, 0, 0),
-        Answer::Singular { rank } => Numbers(7, rank, 0, 0),
-    }
-}
-
 // "The page line gives page number, n, L, rows laid, rank, answer number, agreement."
 pub(crate) fn answer(page: Page, rows: usize, answer: Answer) {
-    let numbers = numbers_of(answer);
+    let numbers = reading::numbers_of(answer);
     let mut text = [0u8; 256];
     let mut at = put_number(&mut text, 0, b"page ", page.number as u64);
     at = put_number(&mut text, at, b" symbols ", page.n as u64);
     at = put_number(&mut text, at, b" bytes ", page.l as u64);
     at = put_number(&mut text, at, b" rows ", rows as u64);
-    at = put_number(&mut text, at, b" kept ", numbers.1 as u64);
-    at = put_number(&mut text, at, b" answer ", numbers.0 as u64);
-    at = put_number(&mut text, at, b" agree ", numbers.3 as u64);
+    at = put_number(&mut text, at, b" kept ", numbers.rank as u64);
+    at = put_number(&mut text, at, b" answer ", numbers.number as u64);
+    at = put_number(&mut text, at, b" agree ", numbers.agreement as u64);
     at = put(&mut text, at, b"\n");
     write(&text, at);
 }

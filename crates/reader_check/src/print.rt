@@ -8,27 +8,12 @@ fn number(x: u64) {
     io::write_all(STDOUT_FILENO, b" ");
 }
 
-// Number, rank, place and agreement.
-fn numbers(answer: Answer) -> [u64; 4] {
-    match answer {
-        Answer::Shape => [1, 0, 0, 0],
-        Answer::List => [2, 0, 0, 0],
-        Answer::Room => [3, 0, 0, 0],
-        Answer::Stray(arrival) => [4, 0, arrival.0 as u64, 0],
-        Answer::Few { rank } => [5, rank as u64, 0, 0],
-        Answer::Tie { rank } => [6, rank as u64, 0, 0],
-        Answer::Singular { rank } => [7, rank as u64, 0, 0],
-        Answer::Page { rank, agreement } => [0, rank as u64, 0, agreement as u64],
-    }
-}
-
 pub fn answer(answer: Answer) {
-    let four = numbers(answer);
-    let mut i: usize = 0;
-    while i < 4 {
-        number(four[i]);
-        i += 1;
-    }
+    let numbers = reading::numbers_of(answer);
+    number(numbers.number as u64);
+    number(numbers.rank as u64);
+    number(numbers.place as u64);
+    number(numbers.agreement as u64);
 }
 
 fn byte(b: u8) {

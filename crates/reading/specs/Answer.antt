@@ -2,12 +2,7 @@
 use Prim.Native.Nat.{ℕ}
 use Rattle.reading.specs.declared.Answer.{Answer}
 use Rattle.reading.specs.declared.Answer.the-variants.{Page, Shape, List, Room, Stray, Few, Tie, Singular}
-
-pub record Numbers : Type 0 where
-  pub number : ℕ
-  pub rank : ℕ
-  pub place : ℕ
-  pub agreement : ℕ
+use Rattle.reading.specs.declared.Numbers.{Numbers}
 
 abbrev pub gives : ℕ → ℕ → ℕ → ℕ → Numbers
 gives number rank place agreement = record { number = number; rank = rank; place = place; agreement = agreement }

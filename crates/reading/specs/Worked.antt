@@ -3,7 +3,8 @@ use Prim.Native.Nat.{ℕ, _+_, _*_}
 use mathlib.Core.List.{List, [], _∷_, map}
 use Rattle.octets.specs.Octets.{flat, over}
 use Rattle.rows.specs.Rows.{rowBytes}
-use Rattle.reading.specs.Answer.{Numbers, gives, numbersOf}
+use Rattle.reading.specs.declared.Numbers.{Numbers}
+use Rattle.reading.specs.Answer.{gives, numbersOf}
 use Rattle.reading.specs.Outcome.{Lent, Outcome, zeros}
 
 -- n, the rows, and what is given: number, rank, place and agreement; then what is written from the front of each lent buffer.

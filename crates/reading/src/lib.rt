@@ -1,4 +1,6 @@
-// What a reading of a list is. There is no function here: the definitions stand in specs/, their laws in proofs/.
+// What a reading of a list is: the definitions stand in specs/, their laws in proofs/. The one function gives an answer its numbers.
+ghost use mathlib.Core.Path.{_≡_};
+ghost use Rattle.reading.specs.Answer.{gives, numbersOf};
 
 // The answer of a reading; specs/Answer.antt gives document 01's number, rank, place and agreement for each case.
 pub enum Answer {
@@ -10,4 +12,49 @@ pub enum Answer {
     Few { rank: usize },
     Tie { rank: usize },
     Singular { rank: usize },
+}
+
+pub struct Numbers {
+    pub number: u8,
+    pub rank: usize,
+    pub place: usize,
+    pub agreement: usize,
+}
+
+fn refused(number: u8, place: usize) -> Numbers
+    ensures { λ r. ⌜ r ≡ gives number 0 place 0 ⌝ }
+{
+    Numbers {
+        number,
+        rank: 0,
+        place,
+        agreement: 0,
+    }
+}
+
+fn ended(number: u8, rank: usize, agreement: usize) -> Numbers
+    ensures { λ r. ⌜ r ≡ gives number rank 0 agreement ⌝ }
+{
+    Numbers {
+        number,
+        rank,
+        place: 0,
+        agreement,
+    }
+}
+
+// Document 01's numbers of an answer.
+pub fn numbers_of(answer: Answer) -> Numbers
+    ensures { λ r. ⌜ r ≡ numbersOf answer ⌝ }
+{
+    match answer {
+        Answer::Shape => refused(1, 0),
+        Answer::List => refused(2, 0),
+        Answer::Room => refused(3, 0),
+        Answer::Stray(arrival) => refused(4, arrival.0),
+        Answer::Few { rank } => ended(5, rank, 0),
+        Answer::Tie { rank } => ended(6, rank, 0),
+        Answer::Singular { rank } => ended(7, rank, 0),
+        Answer::Page { rank, agreement } => ended(0, rank, agreement),
+    }
 }

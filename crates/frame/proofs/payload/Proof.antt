@@ -6,7 +6,8 @@ use native.Mathlib.Nat.{zero-add, le-of-eq}
 use native.Mathlib.Omega.{arith}
 use denote.Ref.{now}
 use borrow.Author.Needs.{needs}
-use Rattle.frame.specs.Numbers.{Numbers, numbersOf, payloadOf}
+use Rattle.frame.specs.declared.numbers.Numbers.{Numbers}
+use Rattle.frame.specs.Numbers.{numbersOf, payloadOf}
 use Rattle.frame.proofs.Good.{refused-is, good-long}
 use Rattle.frame.proofs.payload.Statement.{statement}
 use Rattle.frame.proofs.payload.Tie as tie

@@ -1,0 +1,9 @@
+-- The contract of `reading::numbers_of` settles its answer.
+-- Assumes nothing.
+use mathlib.Core.Path.{ap}
+use Rattle.octets.proofs.Unique.{unique, Settles}
+use Rattle.reading.proofs.numbers_of.Kinds as numbers-of
+use Rattle.reading.proofs.numbers_of.Reads as numbers-of-contract
+
+pub numbers-of-settled : Settles numbers-of.ps numbers-of.r numbers-of-contract.Post
+numbers-of-settled κs args = unique (λ o is. ap (λ r. (r, (tt, tt))) is)
