@@ -3,6 +3,7 @@ pub mod Xors
 pub mod Numbers
 pub mod Digits
 pub mod Runs
+pub mod Back
 pub mod Fill
 pub mod Lay
 pub mod Settled

@@ -8,6 +8,8 @@ use Rattle.octets.proofs.clear.Kinds as clear
 use Rattle.octets.proofs.clear.Reads as clear-contract
 use Rattle.octets.proofs.copy.Kinds as copy
 use Rattle.octets.proofs.copy.Reads as copy-contract
+use Rattle.octets.proofs.least.Kinds as least
+use Rattle.octets.proofs.least.Reads as least-contract
 use Rattle.octets.proofs.put.Kinds as put
 use Rattle.octets.proofs.put.Reads as put-contract
 use Rattle.octets.proofs.get.Kinds as get
@@ -27,3 +29,6 @@ put-settled κs args = unique (λ o is. ap (λ v. (tt, (v, (tt, tt)))) is)
 
 pub get-settled : Settles get.ps get.r get-contract.Post
 get-settled κs args = unique (λ o is. ap (λ r. (r, (tt, tt))) is)
+
+pub least-settled : Settles least.ps least.r least-contract.Post
+least-settled κs args = unique (λ o is. ap (λ r. (r, (tt, (tt, tt)))) is)

@@ -4,7 +4,8 @@ ghost use Prim.Native.Nat.{min, _%_, _^_};
 ghost use lib.ListN.{length, take, replicate};
 ghost use Rattle.octets.specs.Octets.{number, bytes, addFront, over};
 
-fn least(a: usize, b: usize) -> usize
+// The lesser of two lengths.
+pub fn least(a: usize, b: usize) -> usize
     ensures { λ r. ⌜ r ≡ min a b ⌝ }
 {
     if a < b { a } else { b }

@@ -7,19 +7,13 @@ use lines::Page;
 use lines::Spelled;
 use reading::Answer;
 
-fn least(a: usize, b: usize) -> usize
-    ensures { λ r. ⌜ r ≤ b ⌝ }
-{
-    if a < b { a } else { b }
-}
-
 // Puts words behind the first `at` characters, as far as there is room, and gives where they end.
 fn put(text: &mut [u8], at: usize, words: &[u8]) -> usize
     requires { ⌜ at ≤ length (now text) ⌝ }
     ensures { λ r. ⌜ r ≤ length (now (text .entry)) ⌝ }
 {
     octets::copy(&mut text[at..], words);
-    at + least(words.len(), text.len() - at)
+    at + octets::least(words.len(), text.len() - at)
 }
 
 // Puts words and a number.

@@ -102,7 +102,7 @@ multiple : (l : ℕ) (list : List ℕ) → wholeRows l list ≡ true → length 
 unfolding wholeRows
 multiple l list e = eqb-true (length list % rowBytes l) 0 (and-left (eqb (length list % rowBytes l) 0) (leb (rowCount l list) mostRows) e)
 
-most-512 : (l : ℕ) (list : List ℕ) → wholeRows l list ≡ true → rowCount l list ≤ 512
+pub most-512 : (l : ℕ) (list : List ℕ) → wholeRows l list ≡ true → rowCount l list ≤ 512
 unfolding wholeRows mostRows
 most-512 l list e = leb-true (rowCount l list) 512 (and-right (eqb (length list % rowBytes l) 0) (leb (rowCount l list) mostRows) e)
 

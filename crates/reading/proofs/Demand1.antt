@@ -40,7 +40,7 @@ pub record Late (n : ℕ) (rows : List ℕ) (lent : Lent) (o : Outcome) : Type 0
 
 -- ---- the checks
 
-abbrev EarlyCheck : Check → Type 0
+abbrev pub EarlyCheck : Check → Type 0
 EarlyCheck passes = Unit {0}
 EarlyCheck (refuses a) = (1 ≤ numbersOf a .number) × (numbersOf a .number ≤ 4)
 
@@ -53,7 +53,7 @@ unfolding strayFrom numbersOf
 stray-early n l i [] = tt
 stray-early n l i (r ∷ rows) = either (leb (2 ^ n) (constraint l r)) _ _ (omega arith) (stray-early n l (suc i) rows)
 
-checks-early : (n l : ℕ) (list : List ℕ) (lent : Lent) → EarlyCheck (checks n l list lent)
+pub checks-early : (n l : ℕ) (list : List ℕ) (lent : Lent) → EarlyCheck (checks n l list lent)
 unfolding checks numbersOf
 checks-early n l list lent =
     either (not (shape n l)) _ _ (omega arith) (either (not (wholeRows l list)) _ _ (omega arith)
@@ -82,7 +82,7 @@ module _ (n l : ℕ) (rows : List ℕ) (lent : Lent) where
   unfolding solved ended numbersOf
   solved-late page = record { numbered = omega arith; uses = refl; roles = refl; scratch = refl; page = λ h. absurd (omega arith) }
 
-  read-late : Late n rows lent (read n l rows lent)
+  pub read-late : Late n rows lent (read n l rows lent)
   unfolding read
   read-late = choose (few n rows) _ _ few-late (choose (tie n rows) _ _ tie-late (choose (singular n l rows) _ _ singular-late (solved-late _)))
 

@@ -1,0 +1,3 @@
+mod Putting
+mod Counted
+pub mod Settled

@@ -1,0 +1,24 @@
+//! Reads a page from frames on standard input, one a line in hexadecimal digits.
+
+use std::io::{self, stdin};
+
+fn main() -> io::Result<()> {
+    let mut scan = mekorvat::Scan::new();
+    for line in stdin().lines() {
+        if let Err(refusal) = scan.offer(&bytes_of(&line?)) {
+            eprintln!("{refusal}");
+        }
+    }
+    match scan.read() {
+        Ok(page) => println!("{:02x?}, {} rows agree", page.bytes, page.agreement),
+        Err(next) => println!("{next}"),
+    }
+    Ok(())
+}
+
+/// The bytes before the first pair of characters that is not one of digits.
+fn bytes_of(line: &str) -> Vec<u8> {
+    let digit = |&character: &u8| char::from(character).to_digit(16);
+    let byte = |pair: &[u8]| Some((digit(&pair[0])? * 16 + digit(&pair[1])?) as u8);
+    line.as_bytes().chunks_exact(2).map_while(byte).collect()
+}

@@ -1,0 +1,65 @@
+//! Holds what a scan gives its app: the page, or what to do next.
+
+use std::error::Error;
+use std::fmt;
+
+use crate::{Answer, PageId, MOST_ROWS};
+
+/// A page as read, in the buffers of its scan.
+#[derive(Clone, Copy, Debug, PartialEq, Eq)]
+pub struct Page<'a> {
+    /// Which page it is.
+    pub id: PageId,
+    /// The nL bytes of the page; symbol k is bytes kL to kL+L-1.
+    pub bytes: &'a [u8],
+    /// How many rows were read.
+    pub rows: usize,
+    /// How many of them are kept.
+    pub rank: usize,
+    /// How many of them agree with the page.
+    pub agreement: usize,
+}
+
+impl Page<'_> {
+    /// How many rows do not agree with the page: misread, or from another version of it.
+    pub fn disagreeing(&self) -> usize {
+        self.rows - self.agreement
+    }
+}
+
+/// What to do where a reading gives no page.
+#[derive(Clone, Copy, Debug, PartialEq, Eq)]
+pub enum Next {
+    /// No good frame yet, or answer 5 or 7.
+    ScanMore,
+    /// Answer 6: two versions, or misreadings, have equal weight.
+    ScanAgain,
+    /// No further frame can help: the list is full, or the expected n or L is out of range.
+    StartAnew,
+}
+
+impl Next {
+    /// What this answer, to so many rows, asks for.
+    pub(crate) fn after(answer: Answer, rows: usize) -> Self {
+        let full = rows == MOST_ROWS;
+        match answer {
+            Answer::Few { .. } | Answer::Singular { .. } if !full => Next::ScanMore,
+            Answer::Tie { .. } if !full => Next::ScanAgain,
+            _ => Next::StartAnew,
+        }
+    }
+}
+
+impl fmt::Display for Next {
+    fn fmt(&self, f: &mut fmt::Formatter) -> fmt::Result {
+        f.write_str(match self {
+            Next::ScanMore => "the frames do not settle the page yet: scan more",
+            Next::ScanAgain => {
+                "the frames balance: scan again, until one version outweighs the other"
+            }
+            Next::StartAnew => "no further frame can settle the page: start a new scan",
+        })
+    }
+}
+
+impl Error for Next {}

@@ -1,0 +1,169 @@
+//! Holds the owner of all buffers, with which an app reads one page from the frames it sees.
+
+use std::fmt;
+
+use crate::{
+    lay, marks, read_frame, read_list, Answer, LayRefusal, Mark, Next, Page, PageId, LONGEST_PAGE,
+    LONGEST_ROW, MOST_ROWS, SCRATCH_BYTES,
+};
+
+/// The reading of one page from frames as they come.
+///
+/// It lays good frames into a list of its own, and reads that list whenever it is asked. It
+/// allocates when it is made, some 57,000 bytes, and never after.
+#[derive(Clone)]
+pub struct Scan {
+    expected: Option<PageId>,
+    rows: usize,
+    answer: Option<Answer>,
+    list: Vec<u8>,
+    page: Vec<u8>,
+    uses: Vec<u8>,
+    roles: Vec<u8>,
+    scratch: Vec<u8>,
+}
+
+impl Scan {
+    /// A scan whose page is set by the first good frame.
+    pub fn new() -> Self {
+        Scan {
+            expected: None,
+            rows: 0,
+            answer: None,
+            list: vec![0; MOST_ROWS * LONGEST_ROW],
+            page: vec![0; LONGEST_PAGE],
+            uses: vec![0; 2 * MOST_ROWS],
+            roles: vec![0; MOST_ROWS],
+            scratch: vec![0; SCRATCH_BYTES],
+        }
+    }
+
+    /// A scan of a known page: frames of any other are refused from the start.
+    pub fn of_page(expected: PageId) -> Self {
+        Scan {
+            expected: Some(expected),
+            ..Scan::new()
+        }
+    }
+
+    /// The page that is expected; None before the first good frame.
+    pub fn expected(&self) -> Option<PageId> {
+        self.expected
+    }
+
+    /// How many rows are laid.
+    pub fn rows(&self) -> usize {
+        self.rows
+    }
+
+    /// Lays a frame, and gives the arrival number of its row.
+    ///
+    /// A refused frame changes nothing.
+    ///
+    /// ```
+    /// use mekorvat::{FrameRefusal, LayRefusal, Scan};
+    ///
+    /// let mut scan = Scan::new();
+    /// let page_5 = [1, 0, 4, 0, 0, 0, 5, 2, 0, 2, 1, 1, 3, 0, 4, 0, 0, 0, 0, 4, 0, 1, 7];
+    /// let page_6 = [1, 0, 4, 0, 0, 0, 6, 2, 0, 2, 1, 1, 3, 0, 4, 0, 0, 0, 0, 4, 0, 1, 7];
+    /// assert_eq!(scan.offer(&page_5), Ok(0));
+    /// assert_eq!(scan.offer(&page_6), Err(LayRefusal::OtherPage));
+    /// let cut_off = FrameRefusal::Short { place: 19 };
+    /// assert_eq!(scan.offer(&page_5[..21]), Err(LayRefusal::Frame(cut_off)));
+    /// ```
+    pub fn offer(&mut self, frame: &[u8]) -> Result<usize, LayRefusal> {
+        let expected = match self.expected {
+            Some(expected) => expected,
+            None => read_frame(frame)?.id,
+        };
+        let arrival = self.rows;
+        lay(frame, expected, arrival, &mut self.list)?;
+        self.expected = Some(expected);
+        self.rows += 1;
+        self.answer = None;
+        Ok(arrival)
+    }
+
+    /// Reads the rows laid so far: the page, or what to do next.
+    ///
+    /// A page is what the rows so far say, and more of them may say otherwise. The n picked rows
+    /// always agree with it, and only rows beyond these confirm it:
+    ///
+    /// ```
+    /// use mekorvat::{Next, Scan};
+    ///
+    /// let mut scan = Scan::new();
+    /// let mut frame = [1, 0, 4, 0, 0, 0, 5, 2, 0, 2, 1, 1, 3, 0, 4, 0, 0, 0, 0, 4, 0, 1, 7];
+    /// assert_eq!(scan.read(), Err(Next::ScanMore));
+    ///
+    /// scan.offer(&frame)?; // misread, but the only row so far
+    /// let page = scan.read().unwrap();
+    /// assert_eq!((page.bytes, page.agreement), (&[7][..], 1));
+    ///
+    /// frame[22] = 9;
+    /// scan.offer(&frame)?; // one against one
+    /// assert_eq!(scan.read(), Err(Next::ScanAgain));
+    ///
+    /// scan.offer(&frame)?;
+    /// let page = scan.read().unwrap();
+    /// assert_eq!((page.bytes, page.agreement), (&[9][..], 2));
+    /// assert_eq!(page.disagreeing(), 1);
+    /// # Ok::<(), mekorvat::LayRefusal>(())
+    /// ```
+    pub fn read(&mut self) -> Result<Page<'_>, Next> {
+        let Some(id) = self.expected else {
+            return Err(Next::ScanMore);
+        };
+        let answer = read_list(
+            id.n,
+            id.l,
+            &self.list[..self.rows * id.row_bytes()],
+            &mut self.page,
+            &mut self.uses,
+            &mut self.roles,
+            &mut self.scratch,
+        );
+        self.answer = Some(answer);
+        let Answer::Page { rank, agreement } = answer else {
+            return Err(Next::after(answer, self.rows));
+        };
+        Ok(Page {
+            id,
+            bytes: &self.page[..id.page_bytes()],
+            rows: self.rows,
+            rank,
+            agreement,
+        })
+    }
+
+    /// The answer to the rows laid so far; None if they were not read since the last was laid.
+    pub fn answer(&self) -> Option<Answer> {
+        self.answer
+    }
+
+    /// The marks that this answer left on the rows, by arrival number; 1 to 4 leave none.
+    pub fn marks(&self) -> impl Iterator<Item = Mark> + '_ {
+        let marked = match self.answer {
+            Some(answer) if answer.fills_marks() => self.rows,
+            _ => 0,
+        };
+        marks(&self.uses[..2 * marked], &self.roles[..marked])
+    }
+}
+
+impl Default for Scan {
+    fn default() -> Self {
+        Scan::new()
+    }
+}
+
+/// Without the buffers, which would fill the screen.
+impl fmt::Debug for Scan {
+    fn fmt(&self, f: &mut fmt::Formatter) -> fmt::Result {
+        f.debug_struct("Scan")
+            .field("expected", &self.expected)
+            .field("rows", &self.rows)
+            .field("answer", &self.answer)
+            .finish_non_exhaustive()
+    }
+}
