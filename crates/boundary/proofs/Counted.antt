@@ -1,10 +1,10 @@
 -- A reading whose uses are lent as pairs: what it leaves in them, from a reading with counts of its own.
 -- Assumes nothing.
 use mathlib.Core.Path.{_≡_, refl, sym, ap, _∙_}
-use Prim.Native.Nat.{ℕ, suc, min, _*_, _/_, _≤_}
+use Prim.Native.Nat.{ℕ, min, _*_, _/_, _≤_}
 use native.Mathlib.Omega.{arith}
 use mathlib.Core.Bool.{Bool, true, false, cond, not, _&&_, true≢false}
-use mathlib.Core.List.{List, [], _∷_}
+use mathlib.Core.List.{List, []}
 use lib.Dec.{leb}
 use lib.ListN.{length, take}
 use borrow.Author.Tests.{le-leb, lt-leb, leb-true, leb-false}
@@ -13,28 +13,16 @@ use Rattle.octets.specs.Octets.{flat, over}
 use Rattle.octets.proofs.Runs.{length-numbers, take-over}
 use Rattle.octets.proofs.Back.{over-same, over-flat}
 use Rattle.rows.specs.Rows.{shape, rowCount, rowsOf}
-use Rattle.rows.proofs.Lists.{length-rowsOf}
 use Rattle.reading.specs.declared.Answer.{Answer}
 use Rattle.reading.specs.declared.Answer.the-variants as answer
 use Rattle.reading.specs.Answer.{numbersOf}
-use Rattle.reading.specs.Reading.{kept, uses, rank, few, tie, singular, pageOf, pickedRows}
-use Rattle.reading.specs.Outcome.{Lent, Outcome, Check, passes, refuses, wholeRows, roomy, strayFrom, checks, spread, usesMarks, ended, solved, read, after, outcome, plain, telling}
-use Rattle.reading.proofs.Kept.{length-kept}
+use Rattle.reading.specs.Reading.{rank, few, tie, singular, pageOf, pickedRows}
+use Rattle.reading.specs.Outcome.{Lent, Outcome, Check, passes, refuses, wholeRows, roomy, strayFrom, checks, usesMarks, ended, solved, read, after, outcome, plain, telling}
+use Rattle.reading.proofs.Spread.{length-marks}
 use Rattle.reading.proofs.Checks.{Fits, passed, roomy-fits, most-512}
 use Rattle.reading.proofs.Demand1.{EarlyCheck, checks-early, read-late}
 use Rattle.reader.specs.Finish.{buffers, gives}
 use Rattle.boundary.specs.Crossed.{pairs, inPairs, writesNothing}
-
-length-spread : (d : ℕ) (ks : List Bool) (vs : List ℕ) → length (spread d ks vs) ≡ length ks
-unfolding spread
-length-spread d [] vs = refl
-length-spread d (false ∷ ks) vs = ap suc (length-spread d ks vs)
-length-spread d (true ∷ ks) [] = ap suc (length-spread d ks [])
-length-spread d (true ∷ ks) (v ∷ vs) = ap suc (length-spread d ks vs)
-
-length-marks : (l : ℕ) (list : List ℕ) → length (usesMarks (rowsOf l list)) ≡ rowCount l list
-unfolding usesMarks
-length-marks l list = length-spread 65535 (kept (rowsOf l list)) (uses (rowsOf l list)) ∙ length-kept (rowsOf l list) ∙ length-rowsOf l list
 
 -- ---- of the uses the checks see the length, up to 512
 

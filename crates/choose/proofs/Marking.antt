@@ -18,7 +18,7 @@ use Rattle.choose.specs.Pick.{usesIn}
 use Rattle.choose.specs.Mark.{isKept, keptIn, notKept, role, usesMarked, rolesMarked, markAt}
 use Rattle.choose.proofs.Counts.{count-next, count-take}
 use Rattle.choose.proofs.Pairs.{length-uses}
-use Rattle.choose.proofs.Spread.{length-spread, spread-at, getD-any, getD-mapped}
+use Rattle.reading.proofs.Spread.{length-spread, spread-at, getD-any, getD-mapped}
 
 -- ---- what is marked at one arrival
 

@@ -11,6 +11,7 @@ use lib.ListN.{length, take, drop, length-append}
 use lib.Seq.{append-snoc, length-take-le, take-append-add, take-at}
 use Rattle.octets.specs.Octets.{bytes, flat, lay}
 use Rattle.octets.proofs.Numbers.{length-bytes}
+use Rattle.octets.proofs.Runs.{flat-append}
 use Rattle.octets.proofs.Lay.{length-lay}
 use Rattle.rows.specs.Rows.{shape, rowBytes}
 use Rattle.frame.specs.declared.Frame.the-variants as frames
@@ -20,11 +21,6 @@ use Rattle.frame.specs.Reading.{reading}
 use Rattle.frame.specs.Laying.{laid, numberOf, listAfter, frameRow}
 use Rattle.frame.proofs.Laying.{laid-placing, placing-row}
 use Rattle.crossing.specs.Sheet.{Sheet, offered, offeredAll, listOf, blank}
-
-flat-append : (w : ℕ) (xs ys : List ℕ) → flat w (xs ++ ys) ≡ flat w xs ++ flat w ys
-unfolding flat
-flat-append w [] ys = refl
-flat-append w (x ∷ xs) ys = rw (flat-append w xs ys) (sym (append-assoc (bytes w x) (flat w xs) (flat w ys)))
 
 -- the front of a list, up to a part that is laid there
 take-laid : (at : ℕ) (new old : List ℕ) → at ≤ length old → take (at + length new) (lay at new old) ≡ take at old ++ new

@@ -8,9 +8,9 @@ use lib.Dec.{leb, ltb}
 use lib.ListN.{length}
 use borrow.Author.Tests.{le-leb, lt-leb, leb-true, lt-ltb, le-ltb, ltb-true}
 use Rattle.echelon.specs.declared.Absorbed.the-variants.{Kept, Other, Misfit}
-use Rattle.echelon.specs.Algorithm2.{Pass}
+use Rattle.basis.specs.Algorithm2.{Pass}
 use Rattle.echelon.specs.State.{mostKept, tailBytes, stateBytes, gives, keptState, countedState, taken, takes, absorption, passIn}
-use Rattle.echelon.proofs.Fits.{both}
+use Rattle.space.proofs.Both.{both}
 
 -- ---- what fits
 

@@ -20,7 +20,7 @@ use Rattle.echelon.specs.State.{absorption}
 use Rattle.echelon.specs.Holds.{Holds}
 use Rattle.echelon.specs.Eliminating.{Elimination, rankAfter, absorbed, absorbEach, emptied, elimination}
 use Rattle.echelon.proofs.Offers.{Offer}
-use Rattle.echelon.proofs.Ranks.{rank-other, rank-kept}
+use Rattle.reading.proofs.Ranks.{rank-other, rank-kept}
 use Rattle.echelon.proofs.EmptyHolds.{empty-holds}
 use Rattle.echelon.proofs.Holding.{absorbed-answer, absorbed-holds}
 use Rattle.echelon.proofs.Emptied.{Eliminates, eliminates-when, eliminated-so}

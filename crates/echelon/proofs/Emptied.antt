@@ -12,7 +12,7 @@ use Rattle.octets.specs.Octets.{over}
 use Rattle.rows.specs.Rows.{rowBytes, rowCount, rowsOf}
 use Rattle.echelon.specs.State.{stateBytes}
 use Rattle.echelon.specs.Eliminating.{absorbEach, emptied, eliminates, elimination}
-use Rattle.echelon.proofs.Fits.{both}
+use Rattle.space.proofs.Both.{both}
 
 pub record Eliminates (l m room : ℕ) : Type 0 where
   pub some : 1 ≤ l

@@ -10,14 +10,14 @@ use Rattle.octets.specs.Octets.{number, numbers, over}
 use Rattle.octets.proofs.Runs.{length-over, take-over}
 use Rattle.rows.specs.Rows.{rowBytes}
 use Rattle.reading.specs.Reading.{kept, keptAfter, keptRows, otherRows, rank, uses, usesOf}
-use Rattle.echelon.specs.Algorithm2.{steps, start, algorithm2}
-use Rattle.echelon.specs.Reducing.{slotsOf}
+use Rattle.basis.specs.Algorithm2.{steps, start, algorithm2}
+use Rattle.slots.specs.Reducing.{slotsOf}
 use Rattle.echelon.specs.State.{tailBytes, stateBytes, slotsIn, usesIn, flagsIn}
 use Rattle.echelon.specs.Holds.{Holds}
 use Rattle.echelon.specs.Eliminating.{emptied}
 use Rattle.echelon.proofs.Places.{sizes, slots-end}
-use Rattle.echelon.proofs.Views.{numbers-take}
-use Rattle.echelon.proofs.Leaves.{number-zeros}
+use Rattle.octets.proofs.Views.{numbers-take}
+use Rattle.octets.proofs.Loaded.{number-zeros}
 
 zeros-part : (k n : ℕ) → k ≤ n → take {A = ℕ} k (replicate n 0) ≡ replicate k 0
 zeros-part zero n h = refl

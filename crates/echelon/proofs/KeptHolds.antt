@@ -16,13 +16,13 @@ use Rattle.octets.proofs.Numbers.{length-bytes}
 use Rattle.octets.proofs.Lay.{length-lay}
 use Rattle.reading.specs.Reading.{kept, keptRows, rank, uses}
 use Rattle.reading.proofs.OneMore.{kept-snoc}
-use Rattle.echelon.specs.Algorithm2.{Pass, Working, keeping, step}
+use Rattle.basis.specs.Algorithm2.{Pass, Working, keeping, step}
 use Rattle.echelon.specs.State.{mostKept, tailBytes, usesAt, flagsAt, usesIn, flagsIn, keptState}
 use Rattle.echelon.specs.Holds.{Holds, flagOf}
-use Rattle.echelon.proofs.Model.{rank-most, step-kept}
+use Rattle.basis.proofs.Model.{rank-most, step-kept}
 use Rattle.echelon.proofs.Places.{sizes, slot-end}
 use Rattle.echelon.proofs.Offers.{Offer, key, before, p, narrow, right, all-below, next, pass-is, ranked, longer, slots-next, test, vector-lt}
-use Rattle.echelon.proofs.Ranks.{rank-kept}
+use Rattle.reading.proofs.Ranks.{rank-kept}
 use Rattle.echelon.proofs.Written.{slots-stay, uses-below, uses-above, flags-stay, flags-more, slots-more, uses-more}
 
 module _ {l : ℕ} {rows : List ℕ} {row : ℕ} {state : List ℕ} (O : Offer l rows row state) (e : spans (keptRows rows) row ≡ false) where

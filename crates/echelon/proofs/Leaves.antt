@@ -14,7 +14,7 @@ use Rattle.space.specs.Lists.{Below}
 use Rattle.octets.specs.Octets.{number, bytes, over, lay}
 use Rattle.octets.proofs.Numbers.{number-lt, bytes-number, number-append}
 use Rattle.octets.proofs.Digits.{one-shl}
-use Rattle.echelon.proofs.Digits.{bit, bit-byte}
+use Rattle.basis.proofs.Digits.{bit, bit-byte}
 
 -- ---- one byte changed
 
@@ -103,25 +103,3 @@ unfolding lay
 byte-written [] i x h = absurd (omega arith)
 byte-written (y ∷ c) zero x h = refl
 byte-written (y ∷ c) (suc i) x h = ap (λ (l : List ℕ). y ∷ l) (byte-written c i x (omega arith))
-
--- ---- a row and zeros
-
-pub number-zeros : (n : ℕ) → number (replicate n 0) ≡ 0
-unfolding number
-number-zeros zero = refl
-number-zeros (suc n) = rw (zero-mul (2 ^ (8 * length {A = ℕ} (replicate n 0)))) (zero-add (number (replicate n 0)) ∙ number-zeros n)
-
-pub number-loaded : (row : List ℕ) (n : ℕ) → number (row ++ replicate n 0) ≡ number row * 2 ^ (8 * n)
-number-loaded row n = number-append row (replicate n 0) ∙ rw (number-zeros n, length-replicate {A = ℕ} n 0) (add-zero _)
-
-drop-replicate : (k n : ℕ) → drop {A = ℕ} k (replicate n 0) ≡ replicate (n - k) 0
-drop-replicate zero n = let e : n - 0 ≡ n = omega arith in rw e
-drop-replicate (suc k) zero = let e : 0 - suc k ≡ 0 = omega arith in rw e
-drop-replicate (suc k) (suc n) = let e : suc n - suc k ≡ n - k = omega arith in rw e (drop-replicate k n)
-
-pub loaded-is : (row work : List ℕ) → length row ≤ length work
-    → over (take (length {A = ℕ} (replicate (length work) 0)) row) (replicate (length work) 0) ≡ row ++ replicate (length work - length row) 0
-unfolding over
-loaded-is row work h =
-    let n : length {A = ℕ} (replicate (length work) 0) ≡ length work = length-replicate (length work) 0 in
-    rw n (rw (take-all (length work) row h) (ap (λ t. row ++ t) (drop-replicate (length row) (length work))))

@@ -14,11 +14,11 @@ use Rattle.space.proofs.Lists.{below-append}
 use Rattle.rows.specs.Rows.{rowBytes}
 use Rattle.reading.specs.Reading.{keptRows, rank, uses}
 use Rattle.reading.proofs.Pick.{length-uses}
-use Rattle.echelon.specs.Algorithm2.{Pass, pass, Working, step, algorithm2}
+use Rattle.basis.specs.Algorithm2.{Pass, pass, Working, step, algorithm2}
 use Rattle.echelon.specs.State.{mostKept, passIn, taken, absorption}
 use Rattle.echelon.specs.Holds.{Holds}
-use Rattle.echelon.proofs.Model.{Right, step-right, algorithm2-right, algorithm2-snoc, rank-most, rank-room, step-test}
-use Rattle.echelon.proofs.Elimination.{rows-lt}
+use Rattle.basis.proofs.Model.{Right, step-right, algorithm2-right, algorithm2-snoc, rank-most, rank-room, step-test}
+use Rattle.basis.proofs.Elimination.{rows-lt}
 use Rattle.echelon.proofs.Places.{sizes}
 use Rattle.echelon.proofs.Absorbing.{Takes, takes-when, absorbed-so}
 

@@ -14,15 +14,16 @@ use Rattle.octets.proofs.Runs.{length-flat}
 use Rattle.octets.proofs.Lay.{length-lay}
 use Rattle.reading.specs.Reading.{kept, keptRows, otherRows, rank, usesOf, uses}
 use Rattle.reading.proofs.Kept.{length-kept}
-use Rattle.reading.proofs.OneMore.{kept-snoc, raised}
+use Rattle.reading.proofs.OneMore.{kept-snoc}
+use Rattle.reading.specs.Raised.{raised}
 use Rattle.reading.proofs.Pick.{length-uses}
-use Rattle.echelon.specs.Algorithm2.{digits, Pass, Working, counting, step}
+use Rattle.basis.specs.Algorithm2.{digits, Pass, Working, counting, step}
 use Rattle.echelon.specs.State.{mostKept, usesAt, flagsAt, usesIn, flagsIn, countedState}
 use Rattle.echelon.specs.Holds.{Holds, flagOf}
-use Rattle.echelon.proofs.Model.{step-other}
+use Rattle.basis.proofs.Model.{step-other}
 use Rattle.echelon.proofs.Places.{sizes}
 use Rattle.echelon.proofs.Offers.{Offer, key, before, p, narrow, right, all-below, next, pass-is, ranked, fits, longer, slots-next}
-use Rattle.echelon.proofs.Ranks.{rank-other}
+use Rattle.reading.proofs.Ranks.{rank-other}
 use Rattle.echelon.proofs.Written.{slots-stay, uses-above, flags-stay, flags-more, uses-anew}
 
 -- no row is used more often than there are rows

@@ -7,18 +7,18 @@ use Prim.Native.Nat.{ℕ, _+_, _-_, _*_, _^_, _≤_, _<_}
 use native.Mathlib.Nat.{le-trans, mul-le-mul-right, mul-le-mul-left, suc-mul}
 use native.Mathlib.Omega.{arith}
 use lib.ListN.{length, take, drop, set, replicate, length-append, length-replicate}
-use lib.Seq.{take-all}
 use Rattle.space.specs.Space.{_⊕_}
 use Rattle.octets.specs.Octets.{number, bytes, numbers, flat, over, lay}
 use Rattle.octets.proofs.Numbers.{length-bytes}
-use Rattle.octets.proofs.Lay.{over-all, length-lay, lay-back}
-use Rattle.reading.proofs.OneMore.{raised}
-use Rattle.echelon.specs.Algorithm2.{digits, pass}
-use Rattle.echelon.specs.Reducing.{fits, slotsOf, passOf}
+use Rattle.octets.proofs.Lay.{length-lay, lay-back}
+use Rattle.reading.specs.Raised.{raised}
+use Rattle.basis.specs.Algorithm2.{digits, pass}
+use Rattle.slots.specs.Reducing.{fits, slotsOf, passOf}
 use Rattle.echelon.specs.State.{mostKept, tailBytes, usesAt, flagsAt, stateBytes, slotsIn, usesIn, passIn, KeepRoom, keptState, countedState}
-use Rattle.echelon.proofs.Fits.{fits-when}
-use Rattle.echelon.proofs.Views.{numbers-take}
-use Rattle.echelon.proofs.Leaves.{pair-written, byte-written, number-loaded}
+use Rattle.slots.proofs.Fits.{fits-when}
+use Rattle.octets.proofs.Views.{numbers-take}
+use Rattle.echelon.proofs.Leaves.{pair-written, byte-written}
+use Rattle.octets.proofs.Loaded.{number-loaded}
 
 pub sizes : (mostKept ≡ 320) × (tailBytes ≡ 40) × (usesAt ≡ 25600) × (flagsAt ≡ 26240) × (stateBytes ≡ 26752)
 unfolding mostKept tailBytes usesAt flagsAt stateBytes
@@ -50,9 +50,6 @@ pass-loaded row slots =
     rw wide (rw digits (ap (pass mostKept (slotsOf (length row) (length row + tailBytes) slots)) (number-loaded row tailBytes ∙ ap (λ (n : ℕ). number row * 2 ^ n) eight)))
 
 -- ---- what is written
-
-pub copied : (k : ℕ) (new old : List ℕ) → length new ≡ k → length old ≡ k → over (take (length old) new) old ≡ new
-copied k new old e f = ap (λ (l : List ℕ). over l old) (take-all (length old) new (omega arith)) ∙ over-all new old (e ∙ sym f)
 
 pub kept-laid : (w t vector m r : ℕ) (state new : List ℕ) → KeepRoom w t m r (length state) → t * w + w ≤ usesAt → new ≡ bytes w (vector ⊕ 2 ^ r)
     → set (set (set (take (t * w) state ++ (new ++ drop (t * w + w - t * w) (drop (t * w) state))) (usesAt + 2 * r) 0) (usesAt + 2 * r + 1) 0) (flagsAt + m) 1

@@ -2,15 +2,10 @@
 -- Assumes nothing.
 use mathlib.Core.Path.{ap₂}
 use Rattle.octets.proofs.Unique.{unique, Settles}
-use Rattle.echelon.proofs.reduce.Kinds as reduce
-use Rattle.echelon.proofs.reduce.Reads as reduce-contract
 use Rattle.echelon.proofs.absorb.Kinds as absorb
 use Rattle.echelon.proofs.absorb.Reads as absorb-contract
 use Rattle.echelon.proofs.eliminate.Kinds as eliminate
 use Rattle.echelon.proofs.eliminate.Reads as eliminate-contract
-
-pub reduce-settled : Settles reduce.ps reduce.r reduce-contract.Post
-reduce-settled κs args = unique (λ o is. ap₂ (λ r v. (r, (v, (tt, (tt, tt))))) (is .0) (is .1))
 
 pub absorb-settled : Settles absorb.ps absorb.r absorb-contract.Post
 absorb-settled κs args = unique (λ o is. ap₂ (λ r v. (r, (v, (tt, (tt, (tt, tt)))))) (is .0) (is .1))

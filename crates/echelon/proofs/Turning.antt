@@ -14,7 +14,7 @@ use Rattle.echelon.specs.declared.Absorbed.{Absorbed}
 use Rattle.echelon.specs.declared.Absorbed.the-variants.{Kept, Other, Misfit}
 use Rattle.echelon.specs.State.{absorption}
 use Rattle.echelon.specs.Eliminating.{Elimination, rankAfter, absorbed, absorbEach}
-use Rattle.echelon.proofs.Views.{part-room}
+use Rattle.octets.proofs.Views.{part-room}
 
 -- the rows of a list, m of them
 abbrev pub rowsIn : ℕ → List ℕ → List ℕ

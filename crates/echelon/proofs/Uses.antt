@@ -16,9 +16,9 @@ use Rattle.octets.specs.Octets.{number, bytes, numbers, flat, over, lay}
 use Rattle.octets.proofs.Numbers.{number-bytes-mod, length-bytes}
 use Rattle.octets.proofs.Runs.{length-numbers, length-flat, flat-numbers, numbers-below}
 use Rattle.octets.proofs.Lay.{lay-zero, lay-drop}
-use Rattle.reading.proofs.OneMore.{raised}
-use Rattle.echelon.specs.Algorithm2.{digits}
-use Rattle.echelon.proofs.Digits.{bit}
+use Rattle.reading.specs.Raised.{raised}
+use Rattle.basis.specs.Algorithm2.{digits}
+use Rattle.basis.proofs.Digits.{bit}
 
 -- ---- one number of a run
 

@@ -13,7 +13,7 @@ use lib.Seq.{take-all, drop-at}
 use Rattle.octets.specs.Octets.{number, bytes}
 use Rattle.octets.proofs.Numbers.{length-bytes, bytes-⊕, bytes-mod, number-bytes-mod}
 use Rattle.octets.proofs.Digits.{bytes-append}
-use Rattle.echelon.specs.Algorithm2.{digits}
+use Rattle.basis.specs.Algorithm2.{digits}
 use Rattle.echelon.specs.State.{mostKept, tailBytes, keptState, countedState}
 use Rattle.echelon.proofs.Places.{sizes}
 

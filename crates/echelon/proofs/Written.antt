@@ -12,11 +12,11 @@ use Rattle.octets.specs.Octets.{bytes, numbers, flat, over, lay}
 use Rattle.octets.proofs.Numbers.{length-bytes, number-bytes}
 use Rattle.octets.proofs.Lay.{lay-zero, drop-after}
 use Rattle.octets.proofs.Runs.{length-flat, numbers-flat, take-over}
-use Rattle.echelon.specs.Reducing.{slotsOf}
+use Rattle.slots.specs.Reducing.{slotsOf}
 use Rattle.echelon.specs.State.{mostKept, tailBytes, usesAt, flagsAt, stateBytes, slotsIn, usesIn, flagsIn}
 use Rattle.echelon.proofs.Places.{sizes, slots-end}
-use Rattle.echelon.proofs.Views.{numbers-take}
-use Rattle.echelon.proofs.Laid.{drop-lay, numbers-before, numbers-lay, numbers-more, take-more}
+use Rattle.octets.proofs.Views.{numbers-take}
+use Rattle.octets.proofs.Laid.{drop-lay, numbers-before, numbers-lay, numbers-more, take-more}
 
 -- ---- what lies elsewhere stays
 

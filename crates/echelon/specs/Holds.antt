@@ -7,7 +7,7 @@ use lib.ListN.{length}
 use Rattle.space.specs.Lists.{Below}
 use Rattle.rows.specs.Rows.{rowBytes}
 use Rattle.reading.specs.Reading.{kept, rank, uses}
-use Rattle.echelon.specs.Algorithm2.{algorithm2}
+use Rattle.basis.specs.Algorithm2.{algorithm2}
 use Rattle.echelon.specs.State.{mostKept, stateBytes, slotsIn, usesIn, flagsIn}
 
 -- The flag of an arrival.

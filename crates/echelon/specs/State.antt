@@ -7,11 +7,11 @@ use lib.Dec.{leb, ltb}
 use lib.ListN.{length, take, drop}
 use Rattle.space.specs.Space.{_⊕_}
 use Rattle.octets.specs.Octets.{bytes, numbers, flat, lay}
-use Rattle.reading.proofs.OneMore.{raised}
+use Rattle.reading.specs.Raised.{raised}
 use Rattle.echelon.specs.declared.Absorbed.{Absorbed}
 use Rattle.echelon.specs.declared.Absorbed.the-variants.{Kept, Other, Misfit}
-use Rattle.echelon.specs.Algorithm2.{digits, Pass, pass}
-use Rattle.echelon.specs.Reducing.{slotsOf}
+use Rattle.basis.specs.Algorithm2.{digits, Pass, pass}
+use Rattle.slots.specs.Reducing.{slotsOf}
 
 -- A row of 40 bytes has 320 digits, so no more rows are kept, and a tail of 40 bytes names them.
 unfoldable pub mostKept : ℕ

@@ -6,7 +6,7 @@ use Prim.Native.Nat.{ℕ, _+_, _-_, _≤_}
 use native.Mathlib.Nat.{le-refl}
 use native.Mathlib.Omega.{arith}
 use lib.ListN.{length, take, drop, length-append, length-take, length-drop, take-append-drop}
-use lib.Seq.{take-append-le, take-take, take-at, drop-at, drop-drop, drop-append-add, drop-append-le, drop-length, length-take-le, take-add}
+use lib.Seq.{take-all, take-append-le, take-take, take-at, drop-at, drop-drop, drop-append-add, drop-append-le, drop-length, length-take-le, take-add}
 use Rattle.octets.specs.Octets.{lay, over}
 use Rattle.octets.proofs.Runs.{over-over, take-over}
 
@@ -15,6 +15,10 @@ use Rattle.octets.proofs.Runs.{over-over, take-over}
 pub over-all : (new old : List ℕ) → length new ≡ length old → over new old ≡ new
 unfolding over
 over-all new old e = rw (e, drop-length old) (append-nil new)
+
+-- the whole of it
+pub copied : (k : ℕ) (new old : List ℕ) → length new ≡ k → length old ≡ k → over (take (length old) new) old ≡ new
+copied k new old e f = ap (λ (l : List ℕ). over l old) (take-all (length old) new (omega arith)) ∙ over-all new old (e ∙ sym f)
 
 pub drop-over : (k : ℕ) (new old : List ℕ) → length new ≤ k → drop k (over new old) ≡ drop k old
 unfolding over

@@ -4,6 +4,9 @@ pub mod Numbers
 pub mod Digits
 pub mod Runs
 pub mod Back
+pub mod Views
 pub mod Fill
 pub mod Lay
+pub mod Laid
+pub mod Loaded
 pub mod Settled

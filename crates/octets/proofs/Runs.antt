@@ -4,7 +4,7 @@ use mathlib.Core.Path.{_≡_, refl, sym, ap, ap₂, _∙_}
 use Prim.Native.Nat.{ℕ, zero, suc, _*_, _^_, _≤_, _<_}
 use native.Mathlib.Nat.{zero-mul, suc-mul, add-comm, lt-of-lt-of-le}
 use native.Mathlib.Omega.{arith}
-use mathlib.Core.List.{List, [], _∷_, _++_}
+use mathlib.Core.List.{List, [], _∷_, _++_, append-assoc, append-nil}
 use lib.Pow.{pow-mono}
 use lib.ListN.{length, take, drop, getD, length-append, length-take, length-drop, take-append-drop}
 use lib.Seq.{take-at, drop-at, drop-drop, length-take-le}
@@ -34,6 +34,15 @@ pub flat-below : (w : ℕ) (xs : List ℕ) → Below 256 (flat w xs)
 unfolding flat
 flat-below w [] = tt
 flat-below w (x ∷ xs) = below-append 256 (bytes w x) (flat w xs) (bytes-below w x) (flat-below w xs)
+
+pub flat-append : (w : ℕ) (xs ys : List ℕ) → flat w (xs ++ ys) ≡ flat w xs ++ flat w ys
+unfolding flat
+flat-append w [] ys = refl
+flat-append w (x ∷ xs) ys = rw (flat-append w xs ys) (sym (append-assoc (bytes w x) (flat w xs) (flat w ys)))
+
+pub flat-snoc : (w : ℕ) (xs : List ℕ) (x : ℕ) → flat w (xs ++ (x ∷ [])) ≡ flat w xs ++ bytes w x
+unfolding flat
+flat-snoc w xs x = flat-append w xs (x ∷ []) ∙ ap (λ t. flat w xs ++ t) (append-nil (bytes w x))
 
 -- of a run of any length: where bytes are missing, the number is smaller
 pub numbers-small : (w m : ℕ) (bs : List ℕ) → Below 256 bs → Below (2 ^ (8 * w)) (numbers w m bs)

@@ -17,8 +17,8 @@ use Rattle.echelon.specs.State.{usesAt, flagsAt, stateBytes, usesIn, flagsIn}
 use Rattle.echelon.specs.Eliminating.{elimination}
 use Rattle.echelon.specs.Holds.{Holds}
 use Rattle.echelon.proofs.Eliminated.{eliminated-holds}
-use Rattle.echelon.proofs.Model.{rank-room}
-use Rattle.echelon.proofs.Views.{numbers-take}
+use Rattle.basis.proofs.Model.{rank-room}
+use Rattle.octets.proofs.Views.{numbers-take}
 use Rattle.choose.specs.declared.Choice.{Choice}
 use Rattle.choose.specs.declared.Choice.the-variants.{Few, Tie, Picked}
 use Rattle.choose.specs.Pick as pick

@@ -4,12 +4,13 @@ use mathlib.Core.Path.{_≡_, refl}
 use Prim.Native.Nat.{ℕ, suc, _+_, _*_, _%_, _^_, _≤_, _<_}
 use native.Mathlib.Nat.{div-add-mod'}
 use native.Mathlib.Omega.{arith}
-use mathlib.Core.Bool.{Bool, true, false, cond, not, _&&_, false≢true}
+use mathlib.Core.Bool.{Bool, true, false, cond, not, _&&_}
 use mathlib.Core.List.{List, [], _∷_, map}
 use lib.Dec.{eqb, leb}
 use lib.ListN.{length}
 use borrow.Author.Tests.{eqb-true, leb-true, leb-false, le-leb}
 use Rattle.space.specs.Lists.{Below}
+use Rattle.space.proofs.Both.{both}
 use Rattle.rows.specs.Rows.{shape, rowBytes, rowCount, rowsOf, constraint}
 use Rattle.rows.specs.Shift.{shifted, shiftedList}
 use Rattle.rows.proofs.Shifts.{shifted-constraint, rowCount-shiftedList, length-shiftedList, rows-shiftedList}
@@ -28,14 +29,6 @@ first-passes false a rest e = absurd (refuses≢passes a e)
 rest-passes : (b : Bool) (a : Answer) (rest : Check) → cond (not b) (refuses a) rest ≡ passes → rest ≡ passes
 rest-passes true a rest e = e
 rest-passes false a rest e = absurd (refuses≢passes a e)
-
-pub and-left : (a b : Bool) → (a && b) ≡ true → a ≡ true
-and-left true b e = refl
-and-left false b e = absurd (false≢true e)
-
-pub and-right : (a b : Bool) → (a && b) ≡ true → b ≡ true
-and-right true b e = e
-and-right false b e = absurd (false≢true e)
 
 -- ---- what passing says
 
@@ -71,13 +64,14 @@ roomy-fits n l m lent e =
     let uses : Bool = leb m (length (lent .uses)) in
     let roles : Bool = leb m (length (lent .roles)) in
     let scratch : Bool = leb scratchBytes (length (lent .scratch)) in
-    let front : (page && uses) ≡ true = and-left (page && uses) (roles && scratch) e in
-    let back : (roles && scratch) ≡ true = and-right (page && uses) (roles && scratch) e in
+    let all = both (page && uses) (roles && scratch) e in
+    let front = both page uses (all .0) in
+    let back = both roles scratch (all .1) in
     record {
-      page = leb-true (n * l) (length (lent .page)) (and-left page uses front);
-      uses = leb-true m (length (lent .uses)) (and-right page uses front);
-      roles = leb-true m (length (lent .roles)) (and-left roles scratch back);
-      scratch = leb-true scratchBytes (length (lent .scratch)) (and-right roles scratch back);
+      page = leb-true (n * l) (length (lent .page)) (front .0);
+      uses = leb-true m (length (lent .uses)) (front .1);
+      roles = leb-true m (length (lent .roles)) (back .0);
+      scratch = leb-true scratchBytes (length (lent .scratch)) (back .1);
     }
 
 pub fits-roomy : (n l m : ℕ) (lent : Lent) → Fits n l m lent → roomy n l m lent ≡ true
@@ -100,11 +94,11 @@ stray-none n l i (r ∷ rows) e = go _ (leb (2 ^ n) (constraint l r)) refl e (st
 -- a list of whole rows, 512 at most
 multiple : (l : ℕ) (list : List ℕ) → wholeRows l list ≡ true → length list % rowBytes l ≡ 0
 unfolding wholeRows
-multiple l list e = eqb-true (length list % rowBytes l) 0 (and-left (eqb (length list % rowBytes l) 0) (leb (rowCount l list) mostRows) e)
+multiple l list e = eqb-true (length list % rowBytes l) 0 (both (eqb (length list % rowBytes l) 0) (leb (rowCount l list) mostRows) e .0)
 
 pub most-512 : (l : ℕ) (list : List ℕ) → wholeRows l list ≡ true → rowCount l list ≤ 512
 unfolding wholeRows mostRows
-most-512 l list e = leb-true (rowCount l list) 512 (and-right (eqb (length list % rowBytes l) 0) (leb (rowCount l list) mostRows) e)
+most-512 l list e = leb-true (rowCount l list) 512 (both (eqb (length list % rowBytes l) 0) (leb (rowCount l list) mostRows) e .1)
 
 module _ (n l : ℕ) (list : List ℕ) (lent : Lent) (p : Passed n l list lent) where
   pub inside : Below (2 ^ n) (map (constraint l) (rowsOf l list))

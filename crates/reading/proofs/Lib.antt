@@ -1,5 +1,7 @@
 pub mod Kept
+pub mod Spread
 pub mod OneMore
+pub mod Ranks
 pub mod Linear
 pub mod Pick
 pub mod Page

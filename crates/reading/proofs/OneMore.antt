@@ -12,6 +12,7 @@ use Rattle.space.specs.Space.{spans, setOf, independent}
 use Rattle.space.proofs.Lists.{map-append, select-append, count-same, count-none, count-snoc, tabulate-ext, tabulate-snoc}
 use Rattle.space.proofs.Sets.{independent-snoc, length-setOf, setOf-append}
 use Rattle.reading.specs.Reading.{keptAfter, kept, keptRows, otherRows, usesOf, uses}
+use Rattle.reading.specs.Raised.{raised}
 use Rattle.reading.proofs.Kept.{kept-append, length-kept, kept-independent, others-span}
 
 -- ---- the rows
@@ -62,11 +63,6 @@ usesOf-keep ks k others i a =
     new = count-same (spans ks) _ _ (λ r s. rw (setOf-append ks (k ∷ []) i r s) (rw (← length-setOf ks r) (getD-append-seam (setOf ks r) false [] false))) others a
 
 -- another row: one use more for each of its set
-unfoldable pub raised : List Bool → List ℕ → List ℕ
-raised [] us = us
-raised (b ∷ set) [] = []
-raised (b ∷ set) (u ∷ us) = cond b (suc u) u ∷ raised set us
-
 tabulate-raised : (set : List Bool) (f : ℕ → ℕ) → tabulate (length set) (λ j. cond (getD set j false) (suc (f j)) (f j)) ≡ raised set (tabulate (length set) f)
 unfolding tabulate raised
 tabulate-raised [] f = refl

@@ -8,6 +8,7 @@ use mathlib.Core.Logic.{_⊎_, inl, inr}
 use lib.ListN.{length, length-map}
 use Rattle.space.specs.Lists.{select, marked, count, tabulate}
 use Rattle.space.specs.Space.{_⊕_, sumOf, spans, setOf, independent}
+use Rattle.space.proofs.Both.{both}
 use Rattle.octets.specs.Octets.{number, bytes, numbers, flat, over}
 use Rattle.rows.specs.Rows.{shape, rowCount, rowsOf, constraint, payload, named, agrees}
 use Rattle.rows.proofs.Lists.{rowCount-flat}
@@ -15,7 +16,6 @@ use Rattle.reading.specs.Answer.{numbersOf}
 use Rattle.reading.specs.Reading.{keptAfter, kept, keptRows, otherRows, rank, usesOf, uses, picks, picked, pickedRows, symbol, pageOf, agreement, few, tie, singular}
 use Rattle.reading.specs.Outcome.{Lent, mostRows, wholeRows, roomy, strayFrom, checks, spread, usesMarks, rolesMarks, ended, solved, read, after, outcome}
 use Rattle.reading.specs.Worked.{Case, cases, listOf, Seen, seen, expected}
-use Rattle.reading.proofs.Checks.{and-left, and-right}
 
 -- the list of a case has whole rows, few enough
 sound : Case → Bool
@@ -46,7 +46,7 @@ pub worked : (c : Case) → List·Memᴰ c cases → (lent : Lent) → roomy (c 
     → seen (outcome (c .n) 1 (listOf c) lent) ≡ expected lent c
 unfolding outcome checks
 worked c m lent room =
-    rw (and-left (shape (c .n) 1) (wholeRows 1 (listOf c)) fits) (rw (and-right (shape (c .n) 1) (wholeRows 1 (listOf c)) fits)
+    rw (both (shape (c .n) 1) (wholeRows 1 (listOf c)) fits .0) (rw (both (shape (c .n) 1) (wholeRows 1 (listOf c)) fits .1)
     (rw count (rw room (unfold run in each (run lent) (expected lent) cases (computed lent) c m))))
   where
     fits : (shape (c .n) 1 && wholeRows 1 (listOf c)) ≡ true

@@ -1,4 +1,5 @@
 pub mod Reading
+pub mod Raised
 pub mod Answer
 pub mod Outcome
 pub mod Added

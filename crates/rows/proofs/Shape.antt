@@ -1,15 +1,12 @@
 -- The range of n and L, from the test of it.
 -- Assumes nothing.
-use mathlib.Core.Path.{_≡_, refl}
-use mathlib.Core.Bool.{Bool, true, false, _&&_, false≢true}
+use mathlib.Core.Path.{_≡_}
+use mathlib.Core.Bool.{true, _&&_}
 use Prim.Native.Nat.{ℕ, _≤_}
 use lib.Dec.{leb}
 use borrow.Author.Tests.{leb-true}
+use Rattle.space.proofs.Both.{both}
 use Rattle.rows.specs.Rows.{shape}
-
-pub and-true-both : (a b : Bool) → (a && b) ≡ true → (a ≡ true) × (b ≡ true)
-and-true-both true b e = (refl, e)
-and-true-both false b e = (e, absurd (false≢true e))
 
 pub record InRange (n l : ℕ) : Type 0 where
   pub n-low : 1 ≤ n
@@ -20,9 +17,9 @@ pub record InRange (n l : ℕ) : Type 0 where
 pub shape-range : (n l : ℕ) → shape n l ≡ true → InRange n l
 unfolding shape
 shape-range n l s =
-    let halves = and-true-both (leb 1 n && leb n 64) (leb 1 l && leb l 32) s in
-    let of-n = and-true-both (leb 1 n) (leb n 64) (halves .0) in
-    let of-l = and-true-both (leb 1 l) (leb l 32) (halves .1) in
+    let halves = both (leb 1 n && leb n 64) (leb 1 l && leb l 32) s in
+    let of-n = both (leb 1 n) (leb n 64) (halves .0) in
+    let of-l = both (leb 1 l) (leb l 32) (halves .1) in
     record {
       n-low = leb-true 1 n (of-n .0);
       n-high = leb-true n 64 (of-n .1);

@@ -1,4 +1,4 @@
--- One row in bytes that goes into slots: what `echelon::reduce` answers and leaves, as the model has it.
+-- One row in bytes that goes into slots: what `slots::reduce` answers and leaves, as the model has it.
 -- Assumes nothing.
 use mathlib.Core.Path.{_≡_, refl, sym, ap₂, _∙_}
 use Prim.Native.Nat.{ℕ, _*_, _-_, _≤_, _<_}
@@ -13,40 +13,14 @@ use Rattle.space.specs.Lists.{Below}
 use Rattle.octets.specs.Octets.{number, bytes}
 use Rattle.octets.proofs.Numbers.{number-lt, number-bytes}
 use Rattle.octets.proofs.Runs.{length-numbers, numbers-small}
-use Rattle.echelon.specs.declared.Reduced.the-variants.{Stopped, Spent, Misfit}
-use Rattle.echelon.specs.Algorithm2.{Pass, pass}
-use Rattle.echelon.specs.Reducing.{fits, slotsOf, passOf, stopOf, reduceAnswer, reduceWork}
-use Rattle.echelon.proofs.Fits.{fits-when}
+use Rattle.slots.specs.declared.Reduced.the-variants.{Stopped, Spent, Misfit}
+use Rattle.basis.specs.Algorithm2.{Pass, pass}
+use Rattle.slots.specs.Reducing.{fits, slotsOf, passOf, stopOf, reduceAnswer, reduceWork}
+use Rattle.slots.proofs.Fits.{fits-when}
 use Rattle.solve.specs.Solve.{enters, entered, leaves}
 use Rattle.solve.specs.Parts.{Ready, slotsIn, Fills}
 use Rattle.solve.proofs.Slots.{pass-lt}
 use Rattle.solve.proofs.Offers.{fill-one}
-
--- ---- where a pass stopped, by its answer
-
-pub stopped-at : (n : ℕ) (p : Pass) (place : ℕ) → stopOf n p ≡ Stopped place → (p .place ≡ place) × (place < n)
-unfolding stopOf
-stopped-at n p place e = go (ltb (p .place) n) refl e
-  where
-    go : (b : Bool) → ltb (p .place) n ≡ b → cond b (Stopped (p .place)) Spent ≡ Stopped place → (p .place ≡ place) × (place < n)
-    go true h q = let same : p .place ≡ place = cc in (same, rw same at (ltb-true (p .place) n h))
-    go false h q = let z : _≡_ {A = ℕ} 0 1 = cc in absurd (omega arith)
-
-pub spent-at : (n : ℕ) (p : Pass) → stopOf n p ≡ Spent → n ≤ p .place
-unfolding stopOf
-spent-at n p e = go (ltb (p .place) n) refl e
-  where
-    go : (b : Bool) → ltb (p .place) n ≡ b → cond b (Stopped (p .place)) Spent ≡ Spent → n ≤ p .place
-    go true h q = let z : _≡_ {A = ℕ} 0 1 = cc in absurd (omega arith)
-    go false h q = ltb-false (p .place) n h
-
-pub misfit-never : (n : ℕ) (p : Pass) → stopOf n p ≡ Misfit → ⊥
-unfolding stopOf
-misfit-never n p e = go (ltb (p .place) n) e
-  where
-    go : (b : Bool) → cond b (Stopped (p .place)) Spent ≡ Misfit → ⊥
-    go true q = let z : _≡_ {A = ℕ} 0 1 = cc in omega arith
-    go false q = let z : _≡_ {A = ℕ} 0 1 = cc in omega arith
 
 -- ---- the pass of a row
 

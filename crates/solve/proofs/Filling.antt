@@ -13,9 +13,9 @@ use Rattle.space.specs.Space.{spans, independent}
 use Rattle.space.proofs.Lists.{map-append}
 use Rattle.space.proofs.Sets.{select-independent, independent-snoc}
 use Rattle.rows.specs.Rows.{constraint}
-use Rattle.echelon.specs.Algorithm2.{pass}
-use Rattle.echelon.proofs.Stands.{Stand, stand-none}
-use Rattle.echelon.proofs.Solving.{solve-test, solve-keep}
+use Rattle.basis.specs.Algorithm2.{pass}
+use Rattle.basis.proofs.Stands.{Stand, stand-none}
+use Rattle.basis.proofs.Solving.{solve-test, solve-keep}
 use Rattle.solve.specs.Solve.{enters, entered, Filled, leaves, fill, empty}
 
 -- ---- vectors of which one is a sum of those before it

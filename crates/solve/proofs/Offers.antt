@@ -9,7 +9,7 @@ use lib.ListN.{length}
 use lib.Seq.{set-out}
 use borrow.Author.Tests.{ltb-false, ne-eqb}
 use Rattle.space.specs.Lists.{select}
-use Rattle.echelon.specs.Algorithm2.{pass}
+use Rattle.basis.specs.Algorithm2.{pass}
 use Rattle.solve.specs.Solve.{chosen, enters, entered, Filled, leaves, fill}
 
 -- where the first went in, the rest goes on from there; else nothing more goes in

@@ -11,9 +11,10 @@ use lib.Seq.{take-at, drop-at, length-take-le}
 use borrow.Author.Tests.{leb-true, not-true, not-false}
 use Rattle.octets.specs.Octets.{over}
 use Rattle.octets.proofs.Lay.{over-back}
+use Rattle.space.proofs.Both.{both}
 use Rattle.rows.specs.Rows.{shape, rowCount, rowsOf}
 use Rattle.reading.specs.Outcome.{wholeRows}
-use Rattle.rows.proofs.Shape.{and-true-both, InRange, shape-range}
+use Rattle.rows.proofs.Shape.{InRange, shape-range}
 use Rattle.solve.specs.declared.Solved.{Solved}
 use Rattle.solve.specs.declared.Solved.the-variants.{Page, Singular, Misfit}
 use Rattle.solve.specs.Solve.{Filled, filled, slotBytes, fits, solveAnswer, solvePage, solveSlots}
@@ -31,9 +32,9 @@ pub record Fitting (n l : ℕ) (list roles slots page : List ℕ) : Type 0 where
 fits-so : (n l : ℕ) (list roles slots page : List ℕ) → fits n l list roles slots page ≡ true → Fitting n l list roles slots page
 unfolding fits rowCount slotBytes
 fits-so n l list roles slots page e =
-    let a = and-true-both (shape n l) _ e in
-    let b = and-true-both (leb (length list / (8 + l)) (length roles)) _ (and-true-both (wholeRows l list) _ (a .1) .1) in
-    let d = and-true-both (leb (64 * (8 + l)) (length slots)) (leb (n * l) (length page)) (b .1) in
+    let a = both (shape n l) _ e in
+    let b = both (leb (length list / (8 + l)) (length roles)) _ (both (wholeRows l list) _ (a .1) .1) in
+    let d = both (leb (64 * (8 + l)) (length slots)) (leb (n * l) (length page)) (b .1) in
     record {
       fit = unfold fits rowCount slotBytes in e;
       range = shape-range n l (a .0);

@@ -14,9 +14,9 @@ use Rattle.space.proofs.Lists.{tabulate-ext}
 use Rattle.space.proofs.Dimension.{spans-all}
 use Rattle.rows.specs.Rows.{constraint, payload}
 use Rattle.reading.specs.Reading.{symbol, pageOf}
-use Rattle.echelon.specs.Algorithm2.{pass}
-use Rattle.echelon.proofs.Stands.{Stand}
-use Rattle.echelon.proofs.Solving.{solve-low, solve-symbol}
+use Rattle.basis.specs.Algorithm2.{pass}
+use Rattle.basis.proofs.Stands.{Stand}
+use Rattle.basis.proofs.Solving.{solve-low, solve-symbol}
 use Rattle.solve.specs.Solve.{symbolIn, pageIn}
 
 payload-low : (l row : ℕ) → row < 2 ^ (8 * l) → payload l row ≡ row

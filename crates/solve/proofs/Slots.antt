@@ -8,10 +8,10 @@ use Rattle.space.specs.Lists.{Below}
 use Rattle.space.proofs.Xor.{⊕-lt}
 use Rattle.octets.specs.Octets.{over, lay}
 use Rattle.octets.proofs.Lay.{lay-back}
-use Rattle.echelon.specs.Algorithm2.{later, pass}
-use Rattle.echelon.proofs.Passes.{pass-cases}
-use Rattle.echelon.proofs.Places.{copied}
-use Rattle.echelon.proofs.Views.{length-part}
+use Rattle.basis.specs.Algorithm2.{later, pass}
+use Rattle.basis.proofs.Passes.{pass-cases}
+use Rattle.octets.proofs.Lay.{copied}
+use Rattle.octets.proofs.Views.{length-part}
 
 -- a part of w bytes, copied over from a buffer as long
 pub part-copied : (w at k : ℕ) (bs from into : List ℕ) → k ≡ w → at + w ≤ length bs → length from ≡ w

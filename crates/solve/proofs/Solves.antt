@@ -8,7 +8,7 @@ use mathlib.Core.List.{List, _∷_, _++_}
 use lib.ListN.{length, replicate, length-replicate, replicate-append-replicate}
 use lib.Seq.{take-at, drop-at}
 use Rattle.octets.specs.Octets.{number, numbers, flat, over}
-use Rattle.echelon.proofs.Leaves.{number-zeros}
+use Rattle.octets.proofs.Loaded.{number-zeros}
 use Rattle.solve.specs.Solve.{chosen, Filled, leaves, empty, pageIn}
 use Rattle.solve.specs.Parts.{slotsIn, rowsIn, Fills, fillFrom, pageAfter}
 

@@ -13,9 +13,9 @@ use Rattle.octets.specs.Octets.{number, bytes}
 use Rattle.octets.proofs.Numbers.{number-bytes, bytes-mod, length-bytes}
 use Rattle.octets.proofs.Digits.{bytes-append}
 use Rattle.rows.specs.Rows.{payload}
-use Rattle.echelon.specs.Algorithm2.{pass}
-use Rattle.echelon.specs.Reducing.{fits, reduceWork}
-use Rattle.echelon.proofs.Leaves.{number-loaded}
+use Rattle.basis.specs.Algorithm2.{pass}
+use Rattle.slots.specs.Reducing.{fits, reduceWork}
+use Rattle.octets.proofs.Loaded.{number-loaded}
 use Rattle.solve.specs.Solve.{symbolIn}
 use Rattle.solve.specs.Parts.{slotsIn, unitOf}
 use Rattle.solve.proofs.Entering.{pass-left}

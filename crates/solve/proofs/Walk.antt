@@ -9,7 +9,7 @@ use mathlib.Core.List.{List, [], _∷_}
 use lib.ListN.{length, take, drop}
 use lib.Seq.{drop-drop}
 use Rattle.octets.specs.Octets.{number, numbers}
-use Rattle.echelon.proofs.Views.{length-part}
+use Rattle.octets.proofs.Views.{length-part}
 use Rattle.solve.specs.Parts.{rowsIn}
 
 -- at row i, which begins at byte at

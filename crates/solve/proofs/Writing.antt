@@ -5,20 +5,15 @@ use Prim.Native.Nat.{ℕ, suc, _+_, _-_, _*_, _≤_, _<_}
 use native.Mathlib.Nat.{zero-mul, suc-mul}
 use native.Mathlib.Numerals.{add-one}
 use native.Mathlib.Omega.{arith}
-use mathlib.Core.List.{List, [], _∷_, _++_, append-assoc, append-nil}
+use mathlib.Core.List.{List, _++_}
 use lib.ListN.{length, take, drop}
 use Rattle.space.specs.Lists.{tabulate}
 use Rattle.space.proofs.Lists.{tabulate-snoc, length-tabulate}
 use Rattle.octets.specs.Octets.{bytes, flat, over, lay}
 use Rattle.octets.proofs.Numbers.{length-bytes}
-use Rattle.octets.proofs.Runs.{length-flat, over-none}
+use Rattle.octets.proofs.Runs.{flat-snoc, length-flat, over-none}
 use Rattle.octets.proofs.Lay.{lay-over, length-lay}
-use Rattle.echelon.proofs.Views.{part-room, length-part}
-
-flat-snoc : (l : ℕ) (xs : List ℕ) (x : ℕ) → flat l (xs ++ (x ∷ [])) ≡ flat l xs ++ bytes l x
-unfolding flat
-flat-snoc l [] x = append-nil (bytes l x)
-flat-snoc l (y ∷ xs) x = ap (λ t. bytes l y ++ t) (flat-snoc l xs x) ∙ sym (append-assoc (bytes l y) (flat l xs) (bytes l x))
+use Rattle.octets.proofs.Views.{part-room, length-part}
 
 -- n symbols of l bytes are being written: the first k of them stand there
 pub record Writing (n l : ℕ) (f : ℕ → ℕ) (old now : List ℕ) (k at : ℕ) : Type 0 where

@@ -11,7 +11,7 @@ use Rattle.rows.specs.Rows.{shape, rowBytes, rowCount, rowsOf, payload}
 use Rattle.rows.specs.Make.{cut}
 use Rattle.reading.specs.Reading.{agreement}
 use Rattle.reading.specs.Outcome.{wholeRows}
-use Rattle.echelon.specs.Algorithm2.{pass}
+use Rattle.basis.specs.Algorithm2.{pass}
 use Rattle.solve.specs.declared.Solved.{Solved}
 use Rattle.solve.specs.declared.Solved.the-variants.{Page, Singular, Misfit}
 

@@ -38,13 +38,13 @@ fn enter(slots: &mut [u8], work: &mut [u8], row: &[u8]) -> bool
     ensures { λ r. ⌜ Fills (length (now (row .entry))) (now (slots .entry)) (number (now (row .entry)) ∷ []) r (now (slots .exit)) ⌝ }
 {
     octets::copy(work, row);
-    match echelon::reduce(work, slots, 8) {
-        echelon::Reduced::Stopped(place) => {
+    match slots::reduce(work, slots, 8) {
+        slots::Reduced::Stopped(place) => {
             store(slots, place, work);
             true
         }
-        echelon::Reduced::Spent => false,
-        echelon::Reduced::Misfit => false,
+        slots::Reduced::Spent => false,
+        slots::Reduced::Misfit => false,
     }
 }
 
@@ -99,7 +99,7 @@ fn symbol(out: &mut [u8], work: &mut [u8], slots: &[u8], k: usize)
     ensures { λ _. ⌜ now (out .exit) ≡ bytes (length (now (work .entry)) - 8) (symbolIn (length (now (work .entry)) - 8) (slotsIn (length (now (work .entry))) (now (slots .entry))) k) ⌝ }
 {
     unit(work, k);
-    echelon::reduce(work, slots, 8);
+    slots::reduce(work, slots, 8);
     octets::copy(out, &work[8..]);
 }
 

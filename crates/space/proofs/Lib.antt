@@ -1,3 +1,4 @@
+pub mod Both
 pub mod Lists
 pub mod Xor
 pub mod Sets

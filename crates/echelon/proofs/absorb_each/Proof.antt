@@ -9,7 +9,7 @@ use lib.ListN.{length, take, drop}
 use Rattle.octets.specs.Octets.{number}
 use Rattle.echelon.specs.State.{absorption}
 use Rattle.echelon.specs.Eliminating.{absorbEach, rankAfter}
-use Rattle.echelon.proofs.Views.{length-part}
+use Rattle.octets.proofs.Views.{length-part}
 use Rattle.echelon.proofs.Turning.{rowsIn, Turning, turning-start, row-room, turning-more, turning-end}
 use Rattle.echelon.proofs.absorb_each.Statement.{statement}
 use Rattle.echelon.proofs.absorb_each.Tie as tie

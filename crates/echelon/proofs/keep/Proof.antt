@@ -7,7 +7,8 @@ use Prim.Native.Nat.{_+_, _-_, _*_, _≤_}
 use lib.ListN.{length, length-set, length-take, length-drop, take, drop}
 use Rattle.octets.specs.Octets.{number}
 use Rattle.echelon.specs.State.{tailBytes, usesAt, flagsAt}
-use Rattle.echelon.proofs.Places.{sizes, slot-end, copied, kept-laid}
+use Rattle.octets.proofs.Lay.{copied}
+use Rattle.echelon.proofs.Places.{sizes, slot-end, kept-laid}
 use Rattle.echelon.proofs.keep.Statement.{statement}
 use Rattle.echelon.proofs.keep.Tie as tie
 

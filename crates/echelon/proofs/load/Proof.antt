@@ -6,7 +6,7 @@ use mathlib.Core.List.{List}
 use Prim.Native.Nat.{ℕ}
 use lib.ListN.{length, take}
 use Rattle.octets.specs.Octets.{over}
-use Rattle.echelon.proofs.Leaves.{loaded-is}
+use Rattle.octets.proofs.Loaded.{loaded-is}
 use Rattle.echelon.proofs.load.Statement.{statement}
 use Rattle.echelon.proofs.load.Tie as tie
 

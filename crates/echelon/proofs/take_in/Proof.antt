@@ -6,7 +6,7 @@ use mathlib.Core.Path.{_≡_, sym, ap, ap₂, _∙_}
 use Prim.Native.Nat.{ℕ, _+_}
 use lib.ListN.{length, length-take, length-drop}
 use Rattle.octets.specs.Octets.{number}
-use Rattle.echelon.specs.Algorithm2.{Pass}
+use Rattle.basis.specs.Algorithm2.{Pass}
 use Rattle.echelon.specs.State.{mostKept, tailBytes, Absorption, keptState, passIn}
 use Rattle.echelon.proofs.Places.{sizes}
 use Rattle.echelon.proofs.Absorbing.{Takes, takes-so, taken-other, taken-kept, taken-full}

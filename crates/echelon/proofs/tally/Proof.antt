@@ -7,9 +7,9 @@ use native.Mathlib.Nat.{mod-lt, zero-lt-suc}
 use lib.ListN.{take, drop}
 use Rattle.space.specs.Lists.{Below}
 use Rattle.octets.specs.Octets.{number, bytes, numbers, flat, lay}
-use Rattle.reading.proofs.OneMore.{raised}
+use Rattle.reading.specs.Raised.{raised}
 use Rattle.octets.proofs.Runs.{known-below}
-use Rattle.echelon.specs.Algorithm2.{digits}
+use Rattle.basis.specs.Algorithm2.{digits}
 use Rattle.echelon.proofs.Uses.{Tallying, tally-start, tally-long, tally-more}
 use Rattle.echelon.proofs.tally.Statement.{statement}
 use Rattle.echelon.proofs.tally.Tie as tie

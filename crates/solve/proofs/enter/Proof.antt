@@ -6,9 +6,10 @@ use borrow.Author.Needs.{needs}
 use lib.ListN.{length}
 use Rattle.octets.specs.Octets.{bytes}
 use Rattle.octets.proofs.Runs.{known-below}
-use Rattle.echelon.specs.Reducing.{stopOf, reduceAnswer, reduceWork}
-use Rattle.echelon.proofs.Places.{copied}
-use Rattle.solve.proofs.Entering.{passIn, stopped-at, spent-at, misfit-never, ready-fits, pass-answer, pass-left, fills-spent, fills-stopped}
+use Rattle.slots.specs.Reducing.{stopOf, reduceAnswer, reduceWork}
+use Rattle.octets.proofs.Lay.{copied}
+use Rattle.slots.proofs.Stopping.{stopped-at, spent-at, misfit-never}
+use Rattle.solve.proofs.Entering.{passIn, ready-fits, pass-answer, pass-left, fills-spent, fills-stopped}
 use Rattle.solve.proofs.enter.Statement.{statement}
 use Rattle.solve.proofs.enter.Tie as tie
 

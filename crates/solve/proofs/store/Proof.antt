@@ -6,8 +6,8 @@ use native.Mathlib.Omega.{arith}
 use borrow.Author.Needs.{needs}
 use lib.ListN.{length}
 use Rattle.octets.specs.Octets.{numbers}
-use Rattle.echelon.proofs.Views.{part-room}
-use Rattle.echelon.proofs.Laid.{numbers-lay}
+use Rattle.octets.proofs.Views.{part-room}
+use Rattle.octets.proofs.Laid.{numbers-lay}
 use Rattle.solve.proofs.Slots.{part-copied}
 use Rattle.solve.proofs.store.Statement.{statement}
 use Rattle.solve.proofs.store.Tie as tie

@@ -7,7 +7,7 @@ use borrow.Author.Needs.{needs}
 use lib.ListN.{length, take, drop, length-drop}
 use lib.Seq.{take-all}
 use Rattle.octets.specs.Octets.{over}
-use Rattle.echelon.proofs.Places.{copied}
+use Rattle.octets.proofs.Lay.{copied}
 use Rattle.solve.proofs.Entering.{ready-fits}
 use Rattle.solve.proofs.Units.{symbol-left}
 use Rattle.solve.proofs.symbol.Statement.{statement}

@@ -1,0 +1,13 @@
+pub mod Digits
+pub mod Leading
+pub mod Passes
+pub mod Slots
+pub mod Stands
+pub mod Stops
+pub mod Tails
+pub mod Lifted
+pub mod Elimination
+pub mod Model
+pub mod Parting
+pub mod Solving
+pub mod Turns
