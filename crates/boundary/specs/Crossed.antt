@@ -6,7 +6,7 @@ use lib.Dec.{leb}
 use lib.ListN.{length}
 use Rattle.octets.specs.Octets.{numbers, flat, over}
 use Rattle.frame.specs.declared.numbers.Numbers as frame
-use Rattle.frame.specs.declared.numbers.Told.{Told}
+use Rattle.laying.specs.declared.Told.{Told}
 use Rattle.reading.specs.declared.Answer.{Answer}
 use Rattle.reading.specs.declared.Numbers.{Numbers}
 use Rattle.reading.specs.Answer.{numbersOf}

@@ -5,7 +5,7 @@ ghost use Prim.Native.Nat.{_*_};
 ghost use Rattle.rows.specs.Rows.{rowBytes};
 ghost use Rattle.frame.specs.Reading.{reading};
 ghost use Rattle.frame.specs.Numbers.{numbersOf};
-ghost use Rattle.frame.specs.Laying as laying;
+ghost use Rattle.laying.specs.Laying as laying;
 ghost use Rattle.reader.specs.Finish.{buffers};
 ghost use Rattle.boundary.specs.Crossed.{framed, told, answered, crossed};
 
@@ -51,7 +51,7 @@ pub extern "C" fn mekorvat_lay(
     ensures told { λ r. ⌜ told r (now (place .exit)) ≡ laying.toldBy (laying.laid (now (frame .entry)) page n l arrival (now (list .entry))) ⌝ }
     ensures list { λ r. ⌜ now (list .exit) ≡ laying.listAfter (laying.laid (now (frame .entry)) page n l arrival (now (list .entry))) (rowBytes l * arrival) (laying.frameRow (now (frame .entry))) (now (list .entry)) ⌝ }
 {
-    let told = frame::told_by(frame::lay(frame, page, n, l, Arrival(arrival), list));
+    let told = laying::told_by(laying::lay(frame, page, n, l, Arrival(arrival), list));
     *place = told.place;
     told.number
 }

@@ -26,8 +26,8 @@ use Rattle.reading.specs.declared.Answer.the-variants as answer
 use Rattle.reading.specs.Reading.{rank}
 use Rattle.reading.specs.Outcome.{Lent, passes, mostRows, wholeRows, roomy, strayFrom, checks, outcome, ended, telling}
 use Rattle.reading.proofs.Demand2.{demand-2}
-use Rattle.frame.specs.Writing.{frameOf}
-use Rattle.frame.proofs.Crossing.{frame-reads, frame-row}
+use Rattle.writing.specs.Writing.{frameOf}
+use Rattle.crossing.proofs.Sent.{frame-reads, frame-row}
 use Rattle.crossing.specs.Sheet.{blank, offeredAll, listOf}
 use Rattle.crossing.proofs.Laid.{Refused, Came, laid-list}
 

@@ -19,10 +19,10 @@ use Rattle.rows.specs.Make.{rowOf}
 use Rattle.rows.proofs.Written.{rowOf-made}
 use Rattle.draw.specs.Draw as draw
 use Rattle.frame.specs.Layout.{mark, fieldBytes, headBytes, frameBytes, payloadAt}
-use Rattle.frame.specs.Writing.{sumBytes, frameOf}
+use Rattle.writing.specs.Writing.{sumBytes, frameOf}
 use Rattle.frame.proofs.Lengths.{length-head, length-mark}
 use Rattle.frame.proofs.ReadBack.{laid-out-reads, laid-out-payload}
-use Rattle.frame.proofs.Laying.{row-is}
+use Rattle.laying.proofs.Laying.{row-is}
 use Rattle.crossing.specs.Taken.{Take, flipped, taken}
 use Rattle.crossing.proofs.Laid.{Own}
 

@@ -15,11 +15,11 @@ use Rattle.octets.proofs.Runs.{flat-append}
 use Rattle.octets.proofs.Lay.{length-lay}
 use Rattle.rows.specs.Rows.{shape, rowBytes}
 use Rattle.frame.specs.declared.Frame.the-variants as frames
-use Rattle.frame.specs.declared.Laid.{Laid}
-use Rattle.frame.specs.declared.Laid.the-variants as laids
+use Rattle.laying.specs.declared.Laid.{Laid}
+use Rattle.laying.specs.declared.Laid.the-variants as laids
 use Rattle.frame.specs.Reading.{reading}
-use Rattle.frame.specs.Laying.{laid, numberOf, listAfter, frameRow}
-use Rattle.frame.proofs.Laying.{laid-placing, placing-row}
+use Rattle.laying.specs.Laying.{laid, numberOf, listAfter, frameRow}
+use Rattle.laying.proofs.Laying.{laid-placing, placing-row}
 use Rattle.crossing.specs.Sheet.{Sheet, offered, offeredAll, listOf, blank}
 
 -- the front of a list, up to a part that is laid there

@@ -1,3 +1,4 @@
+pub mod Sent
 pub mod Moved
 pub mod Laid
 pub mod Demand2

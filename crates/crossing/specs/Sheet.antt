@@ -5,7 +5,7 @@ use mathlib.Core.List.{List, [], _∷_}
 use lib.Dec.{eqb}
 use lib.ListN.{take}
 use Rattle.rows.specs.Rows.{rowBytes}
-use Rattle.frame.specs.Laying.{laid, numberOf, listAfter, frameRow}
+use Rattle.laying.specs.Laying.{laid, numberOf, listAfter, frameRow}
 
 -- The list lent for the rows, and how many are laid in it.
 pub record Sheet : Type 0 where

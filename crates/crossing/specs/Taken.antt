@@ -4,7 +4,7 @@ use mathlib.Core.List.{List, _++_, map}
 use lib.ListN.{take, drop}
 use Rattle.octets.specs.Octets.{xorBytes}
 use Rattle.frame.specs.Layout.{payloadAt}
-use Rattle.frame.specs.Writing.{frameOf}
+use Rattle.writing.specs.Writing.{frameOf}
 use Rattle.crossing.specs.Sheet.{blank, offeredAll, listOf}
 
 -- The seed of a frame, and the payload bits that were flipped: L bytes, zero where the payload was read right.

@@ -1,2 +1,3 @@
 mod Shifts
 pub mod Laws
+pub mod Inside

@@ -16,7 +16,7 @@ use Rattle.frame.specs.Reading.{nOf, lOf, reading}
 use Rattle.frame.specs.Numbers.{numbersOf, payloadOf}
 use Rattle.frame.proofs.Whole.{Whole}
 use Rattle.frame.proofs.Good.{Fields, fields, values-are}
-use Rattle.frame.proofs.Parts.{part-long}
+use Rattle.octets.proofs.Parts.{part-long}
 
 -- a whole field is the field of its value
 whole-bytes : (rest : List ℕ) (tag size : ℕ) → Below 256 rest → Whole rest tag size → take (3 + size) rest ≡ fieldBytes tag (take size (drop 3 rest))

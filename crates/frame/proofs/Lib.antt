@@ -1,12 +1,7 @@
 pub mod Tests
-pub mod Draws
 pub mod Whole
 pub mod Good
 pub mod Lengths
-pub mod Parts
-pub mod Writing
-pub mod Laying
 pub mod Exact
 pub mod ReadBack
-pub mod Crossing
 pub mod Settled

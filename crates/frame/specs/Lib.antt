@@ -1,5 +1,3 @@
 pub mod Layout
 pub mod Reading
 pub mod Numbers
-pub mod Writing
-pub mod Laying

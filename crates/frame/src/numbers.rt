@@ -1,9 +1,7 @@
-// Document 01's number, place and values of the answers.
+// Document 01's number, place and values of a reading.
 ghost use mathlib.Core.Path.{_≡_};
 ghost use Rattle.frame.specs.Numbers.{refused, numbersOf};
-ghost use Rattle.frame.specs.Laying.{toldBy};
 use crate::Frame;
-use crate::Laid;
 use crate::layout::PAYLOAD;
 use crate::layout::SHAPE_AT;
 
@@ -16,12 +14,6 @@ pub struct Numbers {
     pub l: u8,
     pub seed: u32,
     pub offset: usize,
-}
-
-// What laying gives.
-pub struct Told {
-    pub number: u8,
-    pub place: usize,
 }
 
 fn refusal(number: u8, place: usize) -> Numbers
@@ -57,40 +49,5 @@ pub fn numbers_of(found: Frame) -> Numbers
         Frame::WrongLength(place) => refusal(13, place),
         Frame::OutOfRange => refusal(14, SHAPE_AT),
         Frame::Trailing(place) => refusal(15, place),
-    }
-}
-
-// The number and place of laying; a refusal of the frame is passed on.
-pub fn told_by(answer: Laid) -> Told
-    ensures { λ r. ⌜ r ≡ toldBy answer ⌝ }
-{
-    match answer {
-        Laid::Row => Told {
-            number: 0,
-            place: 0,
-        },
-        Laid::Shape => Told {
-            number: 1,
-            place: 0,
-        },
-        Laid::Refused(found) => {
-            let numbers = numbers_of(found);
-            Told {
-                number: numbers.number,
-                place: numbers.place,
-            }
-        }
-        Laid::OtherPage => Told {
-            number: 16,
-            place: 0,
-        },
-        Laid::Full => Told {
-            number: 2,
-            place: 0,
-        },
-        Laid::Room => Told {
-            number: 3,
-            place: 0,
-        },
     }
 }

@@ -56,7 +56,7 @@ fn write_from(page: &[u8], b: Base, room: &mut [u8])
     requires { ⌜ (length (now page) ≡ 2048) × (b .n ≤ 64) × (b .l ≤ 32) ⌝ }
 {
     let size = b.n as usize * b.l as usize;
-    frame::write(b.page, b.n, b.l, b.seed, &page[0..size], room);
+    writing::write(b.page, b.n, b.l, b.seed, &page[0..size], room);
 }
 
 // The frame of base k, at the start of room.

@@ -59,7 +59,7 @@ pub fn reading(frame: &[u8]) {
 fn laying_in(list: &mut [u8], frame: &[u8], b: Base, arrival: usize, size: usize)
     requires { ⌜ size ≤ length (now list) ⌝ }
 {
-    let answer = frame::lay(
+    let answer = laying::lay(
         frame,
         b.page,
         b.n,
@@ -67,7 +67,7 @@ fn laying_in(list: &mut [u8], frame: &[u8], b: Base, arrival: usize, size: usize
         Arrival(arrival),
         &mut list[0..size],
     );
-    let told = frame::told_by(answer);
+    let told = laying::told_by(answer);
     number(told.number as u64);
     number(told.place as u64);
     bytes(&list[0..size]);

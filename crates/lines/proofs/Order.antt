@@ -8,13 +8,13 @@ use lib.ListN.{length}
 use Rattle.octets.specs.Octets.{lay}
 use Rattle.rows.specs.Rows.{shape, rowBytes}
 use Rattle.frame.specs.declared.Frame.the-variants as frames
-use Rattle.frame.specs.declared.Laid.{Laid}
-use Rattle.frame.specs.declared.Laid.the-variants as laid
+use Rattle.laying.specs.declared.Laid.{Laid}
+use Rattle.laying.specs.declared.Laid.the-variants as laid
 use Rattle.frame.specs.Reading.{reading}
 use Rattle.frame.specs.Numbers.{numberOf, placeOf}
-use Rattle.frame.specs.Laying as laying
+use Rattle.laying.specs.Laying as laying
 use Rattle.frame.proofs.Good.{isGood, good-shaped}
-use Rattle.frame.proofs.Laying.{placing-full, placing-row, laid-other, laid-placing}
+use Rattle.laying.proofs.Laying.{placing-full, placing-row, laid-other, laid-placing}
 use Rattle.lines.specs.declared.Page.{Page}
 use Rattle.lines.specs.declared.Expected.the-variants.{Nothing, Only}
 use Rattle.lines.specs.declared.Sheet.{Sheet}

@@ -13,11 +13,11 @@ use Rattle.rows.specs.Rows.{shape, rowBytes}
 use Rattle.rows.proofs.Shape.{shape-range}
 use Rattle.frame.specs.declared.Frame.{Frame}
 use Rattle.frame.specs.declared.Frame.the-variants as frames
-use Rattle.frame.specs.declared.Laid.{Laid}
-use Rattle.frame.specs.declared.Laid.the-variants as laid
+use Rattle.laying.specs.declared.Laid.{Laid}
+use Rattle.laying.specs.declared.Laid.the-variants as laid
 use Rattle.frame.specs.Reading.{reading}
 use Rattle.frame.specs.Numbers.{numbersOf, numberOf, placeOf}
-use Rattle.frame.specs.Laying as laying
+use Rattle.laying.specs.Laying as laying
 use Rattle.frame.proofs.Good.{isGood}
 use Rattle.lines.specs.declared.Page.{Page}
 use Rattle.lines.specs.declared.Sheet.{Sheet}

@@ -11,7 +11,7 @@ use Rattle.rows.proofs.Shape.{shape-range}
 use Rattle.frame.specs.declared.Frame.{Frame}
 use Rattle.frame.specs.Reading.{reading, good}
 use Rattle.frame.specs.Numbers.{numbersOf, numberOf, placeOf}
-use Rattle.frame.specs.Laying as laying
+use Rattle.laying.specs.Laying as laying
 use Rattle.frame.proofs.Good.{isGood, good-fields, fields-good}
 use Rattle.lines.specs.declared.Page.{Page}
 use Rattle.lines.specs.declared.Expected.{Expected}

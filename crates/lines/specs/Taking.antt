@@ -7,7 +7,7 @@ use Rattle.rows.specs.Rows.{rowBytes}
 use Rattle.frame.specs.declared.Frame.{Frame}
 use Rattle.frame.specs.Reading.{reading}
 use Rattle.frame.specs.Numbers.{numbersOf, numberOf, placeOf}
-use Rattle.frame.specs.Laying as laying
+use Rattle.laying.specs.Laying as laying
 use Rattle.lines.specs.declared.Page.{Page}
 use Rattle.lines.specs.declared.Expected.{Expected}
 use Rattle.lines.specs.declared.Expected.the-variants.{Nothing, Only}

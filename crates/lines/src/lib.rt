@@ -9,10 +9,10 @@ ghost use mathlib.Core.Path.{_≡_};
 ghost use Prim.Native.Nat.{_≤_};
 ghost use lib.ListN.{length};
 ghost use Rattle.frame.specs.Numbers as frames;
-ghost use Rattle.frame.specs.Laying as laying;
+ghost use Rattle.laying.specs.Laying as laying;
 ghost use Rattle.lines.specs.Taking as spec;
 use frame::Frame;
-use frame::Laid;
+use laying::Laid;
 use rows::Arrival;
 
 // A line has at most 256 characters, so its frame at most half as many bytes.
@@ -71,7 +71,7 @@ fn line_of_frame(found: Frame) -> Line
 fn line_of_laid(answer: Laid) -> Line
     ensures { λ r. ⌜ r ≡ spec.result (laying.numberOf answer) (laying.placeOf answer) ⌝ }
 {
-    let told = frame::told_by(answer);
+    let told = laying::told_by(answer);
     line_of(told.number, told.place)
 }
 
@@ -90,7 +90,7 @@ fn lay_on(page: Page, frame: &[u8], rows: usize, list: &mut [u8]) -> Taken
     ensures taken { λ r. ⌜ r ≡ spec.layOn page (now (frame .entry)) rows (now (list .entry)) .taken ⌝ }
     ensures list { λ r. ⌜ now (list .exit) ≡ spec.layOn page (now (frame .entry)) rows (now (list .entry)) .list ⌝ }
 {
-    let answer = frame::lay(frame, page.number, page.n, page.l, Arrival(rows), list);
+    let answer = laying::lay(frame, page.number, page.n, page.l, Arrival(rows), list);
     let line = line_of_laid(answer);
     let expected = Expected::Only(page);
     let Line::Row = line else {

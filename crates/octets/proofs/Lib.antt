@@ -8,5 +8,6 @@ pub mod Views
 pub mod Fill
 pub mod Lay
 pub mod Laid
+pub mod Parts
 pub mod Loaded
 pub mod Settled

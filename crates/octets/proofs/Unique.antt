@@ -1,7 +1,7 @@
 -- The one law of uniqueness: where each outcome that a contract allows is one and the same, any two that it allows are equal.
 -- A contract is taken as the checker reads it off the source, so that no restatement stands between.
 -- Assumes nothing.
-use mathlib.Core.Path.{_≡_, sym, _∙_}
+use mathlib.Core.Path.{_≡_, sym, ap, ap₂, _∙_}
 use mathlib.Core.List.{List}
 use Prim.Native.Nat.{ℕ}
 use contract.Lifetimes.{Lfts}
@@ -26,3 +26,7 @@ module _ {n : ℕ} (ps : List (PK n)) (r : RK n) (ensures : Out n ps r) where
   -- A contract settles what a call leaves, on all arguments.
   abbrev pub Settles : Type 0
   Settles = (κs : Lfts n) (args : Dens κs ps) → Unique (Allowed κs args)
+
+-- an answer, and a buffer that the answer decides
+pub decided : {A B C : Type 0} (join : A → B → C) (after : A → B) {a b : A} {v : B} → a ≡ b → v ≡ after a → join a v ≡ join b (after b)
+decided join after e h = ap₂ join e (h ∙ ap after e)

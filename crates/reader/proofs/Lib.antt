@@ -1,5 +1,3 @@
-pub mod Straying
-pub mod Gating
 pub mod Sifting
 pub mod Finishing
 pub mod Ending

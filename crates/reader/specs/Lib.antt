@@ -1,3 +1,2 @@
-pub mod Gate
 pub mod Sift
 pub mod Finish

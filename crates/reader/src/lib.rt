@@ -1,101 +1,17 @@
 // Reads a list of rows: the checks, then elimination, choice and solving.
 ghost use mathlib.Core.Path.{_≡_};
-ghost use Prim.Native.Nat.{_-_, _^_, _≤_};
-ghost use lib.Dec.{leb};
+ghost use Prim.Native.Nat.{_≤_};
 ghost use lib.ListN.{length};
-ghost use Rattle.octets.specs.Octets.{number};
-ghost use Rattle.rows.specs.Rows.{rowCount, rowsOf, constraint};
-ghost use Rattle.reading.specs.Outcome.{strayFrom, checks, passes, read, outcome};
+ghost use Rattle.rows.specs.Rows.{rowCount, rowsOf};
+ghost use Rattle.reading.specs.Outcome.{checks, passes, read, outcome};
 ghost use Rattle.echelon.specs.State.{stateBytes};
-ghost use Rattle.reader.specs.Gate.{gate, listed, roomed, strayCheck};
 ghost use Rattle.reader.specs.Sift.{Listed, leastMarked, ChosenBy, SiftedBy};
 ghost use Rattle.reader.specs.Finish.{ends, finished, concluded, picks, Solvable, buffers, gives};
+use checks::Gate;
+use checks::Stray;
 use choose::Choice;
 use reading::Answer;
-use rows::Arrival;
 use solve::Solved;
-
-// What the checks 1 to 3 say.
-enum Gate {
-    Open,
-    Shape,
-    List,
-    Room,
-}
-
-fn list_fits(l: u8, list: usize) -> bool
-    ensures { λ r. ⌜ r ≡ listed l list ⌝ }
-{
-    let w = 8 + l as usize;
-    if list % w != 0 {
-        return false;
-    }
-    list / w <= 512
-}
-
-fn room_fits(bytes: usize, m: usize, page: usize, uses: usize, roles: usize, scratch: usize) -> bool
-    ensures { λ r. ⌜ r ≡ roomed bytes m page uses roles scratch ⌝ }
-{
-    if page < bytes {
-        return false;
-    }
-    if uses < m {
-        return false;
-    }
-    if roles < m {
-        return false;
-    }
-    32768 <= scratch
-}
-
-fn check(n: u8, l: u8, list: usize, page: usize, uses: usize, roles: usize, scratch: usize) -> Gate
-    ensures { λ r. ⌜ r ≡ gate n l list page uses roles scratch ⌝ }
-{
-    if !rows::shaped(n, l) {
-        return Gate::Shape;
-    }
-    if !list_fits(l, list) {
-        return Gate::List;
-    }
-    let m = list / (8 + l as usize);
-    if !room_fits(n as usize * l as usize, m, page, uses, roles, scratch) {
-        return Gate::Room;
-    }
-    Gate::Open
-}
-
-// The first row with a stray bit, if there is one.
-enum Stray {
-    At(Arrival),
-    Nowhere,
-}
-
-// Whether a row of a list has a stray bit.
-fn row_strays(row: &[u8], n: u8) -> bool
-    requires { ⌜ 8 ≤ length (now row) ⌝ }
-    ensures { λ r. ⌜ r ≡ leb (2 ^ n) (constraint (length (now (row .entry)) - 8) (number (now (row .entry)))) ⌝ }
-{
-    rows::strays(n, octets::get(&row[..8]))
-}
-
-fn first_stray(n: u8, l: u8, list: &[u8]) -> Stray
-    ensures { λ r. ⌜ strayCheck r ≡ strayFrom n l 0 (rowsOf l (now (list .entry))) ⌝ }
-{
-    let w = 8 + l as usize;
-    let m = list.len() / w;
-    let mut i: usize = 0;
-    while i < m {
-        let at = i * w;
-        let end = at + w;
-        if row_strays(&list[at..end], n) {
-            return Stray::At(Arrival(i));
-        }
-        i += 1;
-    }
-    Stray::Nowhere
-}
-
-// ---- rows that pass
 
 // The rank, and what the uses choose.
 struct Sifted {
@@ -227,7 +143,7 @@ pub fn read_list(
     ensures { λ a. ⌜ gives a (buffers (now (page .exit)) (now (uses .exit)) (now (roles .exit)) (now (scratch .exit)))
         ≡ outcome n l (now (list .entry)) (buffers (now (page .entry)) (now (uses .entry)) (now (roles .entry)) (now (scratch .entry))) ⌝ }
 {
-    match check(
+    match checks::check(
         n,
         l,
         list.len(),
@@ -241,7 +157,7 @@ pub fn read_list(
         Gate::Room => return Answer::Room,
         Gate::Open => {}
     }
-    match first_stray(n, l, list) {
+    match checks::first_stray(n, l, list) {
         Stray::At(arrival) => Answer::Stray(arrival),
         Stray::Nowhere => read_rows(n, l, list, page, uses, roles, scratch),
     }

@@ -4,8 +4,8 @@ use mathlib.Core.Path.{ap, _∙_}
 use Prim.Native.Nat.{_*_}
 use denote.Ref.{now}
 use Rattle.rows.specs.Rows.{rowBytes}
-use Rattle.frame.specs.declared.Laid.{Laid}
-use Rattle.frame.specs.Laying.{toldBy, listAfter, frameRow}
+use Rattle.laying.specs.declared.Laid.{Laid}
+use Rattle.laying.specs.Laying.{toldBy, listAfter, frameRow}
 use borrow.Author.Needs.{needs}
 use Rattle.boundary.proofs.mekorvat_lay.Statement.{statement}
 use Rattle.boundary.proofs.mekorvat_lay.Tie as tie

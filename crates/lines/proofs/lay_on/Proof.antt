@@ -5,7 +5,7 @@ use Prim.Native.Nat.{ℕ, _+_, _≤_}
 use native.Mathlib.Omega.{arith}
 use borrow.Author.Needs.{needs}
 use denote.Ref.{now}
-use Rattle.frame.specs.Laying as laying
+use Rattle.laying.specs.Laying as laying
 use Rattle.lines.specs.declared.Expected.the-variants.{Only}
 use Rattle.lines.specs.declared.Line.{Line}
 use Rattle.lines.specs.Taking.{Outcome, gives, layOn, rowsAfter}

@@ -3,9 +3,9 @@
 use mathlib.Core.Path.{_≡_, sym, ap, _∙_}
 use borrow.Author.Needs.{needs}
 use Rattle.reading.specs.Outcome.{checks, passes}
-use Rattle.reader.specs.Gate.{strayCheck}
+use Rattle.checks.specs.Gate.{strayCheck}
 use Rattle.reader.specs.Finish.{buffers}
-use Rattle.reader.proofs.Gating.{shape-refused, list-refused, room-refused, stray-refused, all-pass, outcome-read}
+use Rattle.checks.proofs.Gating.{shape-refused, list-refused, room-refused, stray-refused, all-pass, outcome-read}
 use Rattle.reader.proofs.read_list.Statement.{statement}
 use Rattle.reader.proofs.read_list.Tie as tie
 

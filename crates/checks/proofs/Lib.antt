@@ -1,0 +1,3 @@
+mod Straying
+pub mod Gating
+pub mod Settled

@@ -1,0 +1,67 @@
+-- `checks::check` meets its contract: the first test that fails gives the answer.
+-- Assumes nothing.
+use mathlib.Core.Path.{sym, _∙_}
+use Prim.Native.Nat.{_≤_}
+use native.Mathlib.Nat.{mul-le-mul-right}
+use native.Mathlib.Omega.{arith}
+use borrow.Author.Needs.{needs}
+use borrow.Author.Tests.{not-true, not-false}
+use Rattle.checks.specs.Gate.{gate}
+use Rattle.checks.proofs.check.Statement.{statement}
+use Rattle.checks.proofs.check.Tie as tie
+
+shaped-requires : tie.Need-shaped-requires
+shaped-requires c κs = search needs
+
+returns : tie.Need-returns
+unfolding gate
+returns c = rw (sym (c .before .shaped .ensures) ∙ not-true (c .before .shaped .result) (c .if1 .taken))
+
+list-fits-requires : tie.Need-list-fits-requires
+list-fits-requires c κs = search needs
+
+returns-2 : tie.Need-returns-2
+unfolding gate
+returns-2 c = rw (sym (c .before .before .before .shaped .ensures) ∙ not-false (c .before .before .before .shaped .result) (c .before .before .if1 .left)) (rw (sym (c .before .list-fits .ensures) ∙ not-true (c .before .list-fits .result) (c .if2 .taken)))
+
+add-m : tie.Need-add-m
+add-m c = search needs
+
+div-m : tie.Need-div-m
+div-m c = search needs
+
+mul-room-fits : tie.Need-mul-room-fits
+mul-room-fits c =
+    let S = c .before .before .before .before in
+    let small : S .args .n ≤ 255 = omega arith in
+    omega (arith, mul-le-mul-right (S .args .l) small)
+
+room-fits-requires : tie.Need-room-fits-requires
+room-fits-requires c κs = search needs
+
+returns-3 : tie.Need-returns-3
+unfolding gate
+returns-3 c =
+    rw (sym (c .before .before .before .before .before .shaped .ensures) ∙ not-false (c .before .before .before .before .before .shaped .result) (c .before .before .before .before .if1 .left))
+    (rw (sym (c .before .before .before .list-fits .ensures) ∙ not-false (c .before .before .before .list-fits .result) (c .before .before .if2 .left)) (rw (sym (c .before .room-fits .ensures) ∙ not-true (c .before .room-fits .result) (c .if3 .taken))))
+
+returns-4 : tie.Need-returns-4
+unfolding gate
+returns-4 c =
+    rw (sym (c .before .before .before .before .before .shaped .ensures) ∙ not-false (c .before .before .before .before .before .shaped .result) (c .before .before .before .before .if1 .left))
+    (rw (sym (c .before .before .before .list-fits .ensures) ∙ not-false (c .before .before .before .list-fits .result) (c .before .before .if2 .left)) (rw (sym (c .before .room-fits .ensures) ∙ not-false (c .before .room-fits .result) (c .if3 .left))))
+
+pub check-spec : {M : Type 1} → statement M
+check-spec =
+    tie.close
+    (tie.spec
+    shaped-requires
+    returns
+    list-fits-requires
+    returns-2
+    add-m
+    div-m
+    mul-room-fits
+    room-fits-requires
+    returns-3
+    returns-4)

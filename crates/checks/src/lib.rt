@@ -1,0 +1,98 @@
+// The checks 1 to 4 of a list: document 01, "Answer numbers of a reading".
+ghost use mathlib.Core.Path.{_≡_};
+ghost use Prim.Native.Nat.{_-_, _^_, _≤_};
+ghost use lib.Dec.{leb};
+ghost use lib.ListN.{length};
+ghost use Rattle.octets.specs.Octets.{number};
+ghost use Rattle.rows.specs.Rows.{rowsOf, constraint};
+ghost use Rattle.reading.specs.Outcome.{strayFrom};
+ghost use Rattle.checks.specs.Gate.{gate, listed, roomed, strayCheck};
+use rows::Arrival;
+
+// What the checks 1 to 3 say.
+pub enum Gate {
+    Open,
+    Shape,
+    List,
+    Room,
+}
+
+fn list_fits(l: u8, list: usize) -> bool
+    ensures { λ r. ⌜ r ≡ listed l list ⌝ }
+{
+    let w = 8 + l as usize;
+    if list % w != 0 {
+        return false;
+    }
+    list / w <= 512
+}
+
+fn room_fits(bytes: usize, m: usize, page: usize, uses: usize, roles: usize, scratch: usize) -> bool
+    ensures { λ r. ⌜ r ≡ roomed bytes m page uses roles scratch ⌝ }
+{
+    if page < bytes {
+        return false;
+    }
+    if uses < m {
+        return false;
+    }
+    if roles < m {
+        return false;
+    }
+    32768 <= scratch
+}
+
+pub fn check(
+    n: u8,
+    l: u8,
+    list: usize,
+    page: usize,
+    uses: usize,
+    roles: usize,
+    scratch: usize,
+) -> Gate
+    ensures { λ r. ⌜ r ≡ gate n l list page uses roles scratch ⌝ }
+{
+    if !rows::shaped(n, l) {
+        return Gate::Shape;
+    }
+    if !list_fits(l, list) {
+        return Gate::List;
+    }
+    let m = list / (8 + l as usize);
+    if !room_fits(n as usize * l as usize, m, page, uses, roles, scratch) {
+        return Gate::Room;
+    }
+    Gate::Open
+}
+
+// The first row with a stray bit, if there is one.
+pub enum Stray {
+    At(Arrival),
+    Nowhere,
+}
+
+// Whether a row of a list has a stray bit.
+fn row_strays(row: &[u8], n: u8) -> bool
+    requires { ⌜ 8 ≤ length (now row) ⌝ }
+    ensures { λ r. ⌜ r ≡ leb (2 ^ n) (constraint (length (now (row .entry)) - 8) (number (now (row .entry)))) ⌝ }
+{
+    rows::strays(n, octets::get(&row[..8]))
+}
+
+pub fn first_stray(n: u8, l: u8, list: &[u8]) -> Stray
+    ensures { λ r. ⌜ strayCheck r ≡ strayFrom n l 0 (rowsOf l (now (list .entry))) ⌝ }
+{
+    let w = 8 + l as usize;
+    let m = list.len() / w;
+    let mut i: usize = 0;
+    while i < m {
+        let at = i * w;
+        let end = at + w;
+        if row_strays(&list[at..end], n) {
+            return Stray::At(Arrival(i));
+        }
+        i += 1;
+    }
+    Stray::Nowhere
+}

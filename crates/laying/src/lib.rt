@@ -1,0 +1,132 @@
+// Lays the rows of frames into a list. Document 01, "The frame": "Laying a frame into a list".
+ghost use mathlib.Core.Path.{_≡_};
+ghost use Prim.Native.Nat.{_+_, _*_};
+ghost use mathlib.Core.Bool.{true};
+ghost use mathlib.Core.List.{_++_};
+ghost use lib.ListN.{length};
+ghost use Rattle.octets.specs.Octets.{bytes};
+ghost use Rattle.rows.specs.Rows.{shape, rowBytes};
+ghost use Rattle.draw.specs.Draw.{constraint};
+ghost use Rattle.frame.specs.Numbers.{payloadOf};
+ghost use Rattle.laying.specs.Laying.{placing, laid, frameRow, listAfter, toldBy};
+use draw::Drawn;
+use frame::Frame;
+use rows::Arrival;
+
+// The answer of laying; specs/Laying.antt gives document 01's number and place for each case.
+pub enum Laid {
+    Row,
+    Shape,
+    Refused(Frame),
+    OtherPage,
+    Full,
+    Room,
+}
+
+// Document 01's number and place of an answer.
+pub struct Told {
+    pub number: u8,
+    pub place: usize,
+}
+
+// "2, arrival number over 511".
+const LAST_ARRIVAL: usize = 511;
+
+// "the constraint as a big-endian 64-bit number, .. then the payload."
+fn put_row(row: &mut [u8], constraint: u64, payload: &[u8])
+    requires { ⌜ length (now row) ≡ 8 + length (now payload) ⌝ }
+    ensures { λ _. ⌜ now (row .exit) ≡ bytes 8 constraint ++ now (payload .entry) ⌝ }
+{
+    octets::put(&mut row[..8], constraint);
+    octets::copy(&mut row[8..], payload);
+}
+
+// The row of a good frame of l payload bytes, into its place.
+fn lay_row(frame: &[u8], n: u8, l: u8, seed: u32, arrival: Arrival, list: &mut [u8]) -> Laid
+    requires { ⌜ (shape n l ≡ true) × (length (payloadOf (now frame)) ≡ l) ⌝ }
+    ensures answer { λ r. ⌜ r ≡ placing l (arrival .0) (now (list .entry)) ⌝ }
+    ensures list { λ r. ⌜ now (list .exit) ≡ listAfter r (rowBytes l * arrival .0) (bytes 8 (constraint n seed) ++ payloadOf (now (frame .entry))) (now (list .entry)) ⌝ }
+{
+    let at = arrival.0;
+    if LAST_ARRIVAL < at {
+        return Laid::Full;
+    }
+    let size = 8 + l as usize;
+    let start = size * at;
+    let end = start + size;
+    if list.len() < end {
+        return Laid::Room;
+    }
+    // A shape in range always draws one.
+    let drawn = draw::draw(n, seed);
+    let Drawn::Constraint(constraint) = drawn else {
+        return Laid::Shape;
+    };
+    put_row(&mut list[start..end], constraint, frame::payload(frame));
+    Laid::Row
+}
+
+// Lays the row of a frame of the expected page into the list, at the arrival number.
+pub fn lay(frame: &[u8], page_number: u32, n: u8, l: u8, arrival: Arrival, list: &mut [u8]) -> Laid
+    ensures answer { λ r. ⌜ r ≡ laid (now (frame .entry)) «page_number» n l (arrival .0) (now (list .entry)) ⌝ }
+    ensures list { λ r. ⌜ now (list .exit) ≡ listAfter r (rowBytes l * arrival .0) (frameRow (now (frame .entry))) (now (list .entry)) ⌝ }
+{
+    if !rows::shaped(n, l) {
+        return Laid::Shape;
+    }
+    let found = frame::read(frame);
+    let Frame::Good {
+        page,
+        n: its_n,
+        l: its_l,
+        seed,
+    } = found
+    else {
+        return Laid::Refused(found);
+    };
+    if page != page_number {
+        return Laid::OtherPage;
+    }
+    if its_n != n {
+        return Laid::OtherPage;
+    }
+    if its_l != l {
+        return Laid::OtherPage;
+    }
+    lay_row(frame, n, l, seed, arrival, list)
+}
+
+// The number and place of an answer; a refusal of the frame is passed on.
+pub fn told_by(answer: Laid) -> Told
+    ensures { λ r. ⌜ r ≡ toldBy answer ⌝ }
+{
+    match answer {
+        Laid::Row => Told {
+            number: 0,
+            place: 0,
+        },
+        Laid::Shape => Told {
+            number: 1,
+            place: 0,
+        },
+        Laid::Refused(found) => {
+            let numbers = frame::numbers_of(found);
+            Told {
+                number: numbers.number,
+                place: numbers.place,
+            }
+        }
+        Laid::OtherPage => Told {
+            number: 16,
+            place: 0,
+        },
+        Laid::Full => Told {
+            number: 2,
+            place: 0,
+        },
+        Laid::Room => Told {
+            number: 3,
+            place: 0,
+        },
+    }
+}

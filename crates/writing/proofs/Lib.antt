@@ -1,0 +1,2 @@
+mod Rooms
+pub mod Settled
