@@ -13,7 +13,7 @@ use borrow.Author.Tests.{le-leb, lt-leb, leb-true, leb-false, not-true}
 use Rattle.space.specs.Lists.{select, marked, count}
 use Rattle.space.proofs.Lists.{map-both}
 use Rattle.reading.specs.Reading.{uses, picked, tie}
-use Rattle.reading.proofs.Pick.{Most, pick-exactly, pick-only}
+use Rattle.reading.proofs.Pick.{Most, select-true, pick-exactly, pick-only}
 use Rattle.basis.specs.Algorithm2.{Parting}
 
 -- one above the largest
@@ -48,16 +48,6 @@ unfolding marked count
 marked-count f [] = refl
 marked-count f (u ∷ us) = rw (marked-count f us)
 
--- what a test marks passes it
-marked-pass : (f : ℕ → Bool) (us : List ℕ) (x : ℕ) → List·Memᴰ x (select (map f us) us) → f x ≡ true
-unfolding select
-marked-pass f [] x m = absurd (List·Memᴰ·not-nil m)
-marked-pass f (u ∷ us) x m = go (f u) refl m (marked-pass f us x)
-  where
-    go : (b : Bool) → f u ≡ b → List·Memᴰ x (select (b ∷ map f us) (u ∷ us)) → (List·Memᴰ x (select (map f us) us) → f x ≡ true) → f x ≡ true
-    go true e k ih = ⊎-elim (λ p. ap f p ∙ e) ih (List·Memᴰ·cases-cons k)
-    go false e k ih = ih k
-
 -- where n are picked, one above the largest use left out is such a number
 most-parting : (n : ℕ) (us : List ℕ) (pick : List Bool) → Most n us pick → Parting n us (past (select (map not pick) us))
 most-parting n us pick c =
@@ -72,8 +62,8 @@ parting-most n us least e =
       number = marked-count (leb least) us ∙ e;
       above = λ x y m k. omega (
         arith,
-        leb-true least x (marked-pass (leb least) us x m),
-        leb-false least y (not-true (leb least y) (marked-pass (λ u. not (leb least u)) us y (rw (map-both not (leb least) _ (λ u. refl) us) at k))),
+        leb-true least x (select-true (leb least) us x m),
+        leb-false least y (not-true (leb least y) (select-true (λ u. not (leb least u)) us y (rw (map-both not (leb least) _ (λ u. refl) us) at k))),
       );
     }
 

@@ -28,7 +28,7 @@ pub record Most (n : ℕ) (us : List ℕ) (pick : List Bool) : Type 0 where
   pub above : (x y : ℕ) → List·Memᴰ x (select pick us) → List·Memᴰ y (select (map not pick) us) → y < x
 
 -- those that pass a test, and those that do not
-select-true : (f : ℕ → Bool) (us : List ℕ) (x : ℕ) → List·Memᴰ x (select (map f us) us) → f x ≡ true
+pub select-true : (f : ℕ → Bool) (us : List ℕ) (x : ℕ) → List·Memᴰ x (select (map f us) us) → f x ≡ true
 unfolding select
 select-true f [] x m = absurd (List·Memᴰ·not-nil m)
 select-true f (u ∷ us) x m = go (f u) refl m (select-true f us x)
