@@ -1,5 +1,6 @@
 //! Holds the independent second program: the rules of document 01 in plain Rust.
 
+pub mod both;
 pub mod draw;
 pub mod frame;
 pub mod list;

@@ -118,7 +118,7 @@ fn solve(n: usize, l: usize, picked: &[&[u8]]) -> Option<Vec<u8>> {
 }
 
 /// Whether the row's payload is the exclusive-or of the symbols its constraint names.
-fn agrees(row: &[u8], page: &[u8]) -> bool {
+pub(crate) fn agrees(row: &[u8], page: &[u8]) -> bool {
     let (constraint, payload) = split(row);
     page::sum(constraint, payload.len(), page) == payload
 }

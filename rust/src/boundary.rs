@@ -1,4 +1,4 @@
-//! The C boundary one to one: the three functions of the static library, on numbers and slices.
+//! The C boundary one to one: the four functions of the static library, on numbers and slices.
 //!
 //! Each gives document 01's number. The numbers behind `&mut` belong to the answer and are always
 //! set, also by a refusal; "writes nothing" speaks of the lent buffers. The functions at the root
@@ -54,6 +54,30 @@ mod sys {
             rank: &mut usize,
             place: &mut usize,
             agreement: &mut usize,
+        ) -> u8;
+
+        pub fn mekorvat_read_both(
+            n: u8,
+            l: u8,
+            list: *const u8,
+            list_length: usize,
+            page: *mut u8,
+            page_length: usize,
+            uses: *mut u8,
+            uses_length: usize,
+            roles: *mut u8,
+            roles_length: usize,
+            list2: *mut u8,
+            list2_length: usize,
+            page2: *mut u8,
+            page2_length: usize,
+            uses2: *mut u8,
+            uses2_length: usize,
+            roles2: *mut u8,
+            roles2_length: usize,
+            scratch: *mut u8,
+            scratch_length: usize,
+            numbers: &mut [u64; 8],
         ) -> u8;
     }
 }
@@ -142,6 +166,54 @@ pub fn read_list(
             rank,
             place,
             agreement,
+        )
+    }
+}
+
+/// Reads a list, and the rows of it that do not agree with the page that it gives.
+///
+/// `numbers` is rank, place and agreement of the first reading, then number, rank, place and
+/// agreement of the second, then the rows of the second list.
+// One to one with the boundary, which has a parameter for each thing lent.
+#[allow(clippy::too_many_arguments)]
+pub fn read_both(
+    n: u8,
+    l: u8,
+    list: &[u8],
+    page: &mut [u8],
+    uses: &mut [u8],
+    roles: &mut [u8],
+    list2: &mut [u8],
+    page2: &mut [u8],
+    uses2: &mut [u8],
+    roles2: &mut [u8],
+    scratch: &mut [u8],
+    numbers: &mut [u64; 8],
+) -> u8 {
+    // SAFETY: as the module says; the list is only read.
+    unsafe {
+        sys::mekorvat_read_both(
+            n,
+            l,
+            list.as_ptr(),
+            list.len(),
+            page.as_mut_ptr(),
+            page.len(),
+            uses.as_mut_ptr(),
+            uses.len(),
+            roles.as_mut_ptr(),
+            roles.len(),
+            list2.as_mut_ptr(),
+            list2.len(),
+            page2.as_mut_ptr(),
+            page2.len(),
+            uses2.as_mut_ptr(),
+            uses2.len(),
+            roles2.as_mut_ptr(),
+            roles2.len(),
+            scratch.as_mut_ptr(),
+            scratch.len(),
+            numbers,
         )
     }
 }

@@ -30,14 +30,21 @@
 //! # assert_eq!(scan.read().unwrap().bytes, [9]);
 //! ```
 //!
+//! # Both versions of a page
+//!
+//! Where two phones saved one page, and frames of both came across, [`Scan::read_both`] gives the
+//! version that outweighs the other, and the other one as far as its frames settle it.
+//!
 //! # With buffers of your own
 //!
-//! [`read_frame`], [`lay`] and [`read_list`] allocate nothing and work in the buffers that you
-//! lend. [`boundary`] has the same three functions with nothing but numbers and slices.
+//! [`read_frame`], [`lay`], [`read_list`] and [`read_both`] allocate nothing and work in the
+//! buffers that you lend. [`boundary`] has the same four functions with nothing but numbers and
+//! slices.
 
 #![warn(missing_docs)]
 #![deny(unsafe_code)]
 
+mod both;
 pub mod boundary;
 mod frame;
 mod laying;
@@ -47,10 +54,11 @@ mod page_id;
 mod reading;
 mod scan;
 
+pub use both::{read_both, Both, Second};
 pub use frame::{read_frame, Frame, FrameRefusal};
 pub use laying::{lay, LayRefusal};
 pub use marks::{marks, uses, Mark};
-pub use page::{Next, Page};
+pub use page::{Next, Other, Page, Versions};
 pub use page_id::{PageId, LONGEST_PAGE, LONGEST_ROW, MOST_ROWS, SCRATCH_BYTES};
 pub use reading::{read_list, Answer};
 pub use scan::Scan;

@@ -27,6 +27,26 @@ impl Page<'_> {
     }
 }
 
+/// Both versions of a page, as far as the frames settle them.
+#[derive(Clone, Copy, Debug, PartialEq, Eq)]
+pub struct Versions<'a> {
+    /// The page that all rows give.
+    pub page: Page<'a>,
+    /// What the rows give that do not agree with it.
+    pub other: Other<'a>,
+}
+
+/// What the rows give that do not agree with a page.
+#[derive(Clone, Copy, Debug, PartialEq, Eq)]
+pub enum Other<'a> {
+    /// There are none: every row agrees with the page.
+    None,
+    /// A second version of the page.
+    Page(Page<'a>),
+    /// No page: they were misread, or are too few or too mixed yet for a version of their own.
+    Unsettled(Next),
+}
+
 /// What to do where a reading gives no page.
 #[derive(Clone, Copy, Debug, PartialEq, Eq)]
 pub enum Next {

@@ -96,17 +96,18 @@ impl Answer {
         }
     }
 
-    fn of(number: u8, rank: usize, place: usize, agreement: usize) -> Option<Self> {
+    /// The answer that the boundary gives as these numbers.
+    pub(crate) fn of(number: u8, rank: usize, place: usize, agreement: usize) -> Self {
         match number {
-            0 => Some(Answer::Page { rank, agreement }),
-            1 => Some(Answer::Shape),
-            2 => Some(Answer::List),
-            3 => Some(Answer::Room),
-            4 => Some(Answer::Stray { place }),
-            5 => Some(Answer::Few { rank }),
-            6 => Some(Answer::Tie { rank }),
-            7 => Some(Answer::Singular { rank }),
-            _ => None,
+            0 => Answer::Page { rank, agreement },
+            1 => Answer::Shape,
+            2 => Answer::List,
+            3 => Answer::Room,
+            4 => Answer::Stray { place },
+            5 => Answer::Few { rank },
+            6 => Answer::Tie { rank },
+            7 => Answer::Singular { rank },
+            _ => unreachable!("a reading is answered by 0 to 7, which is proved"),
         }
     }
 }
@@ -174,6 +175,5 @@ pub fn read_list(
         &mut place,
         &mut agreement,
     );
-    let answer = Answer::of(number, rank, place, agreement);
-    answer.expect("a reading is answered by 0 to 7, which is proved")
+    Answer::of(number, rank, place, agreement)
 }

@@ -3,24 +3,57 @@
 use std::fmt;
 
 use crate::{
-    lay, marks, read_frame, read_list, Answer, LayRefusal, Mark, Next, Page, PageId, LONGEST_PAGE,
-    LONGEST_ROW, MOST_ROWS, SCRATCH_BYTES,
+    lay, marks, read_both, read_frame, read_list, Answer, Both, LayRefusal, Mark, Next, Other,
+    Page, PageId, Second, Versions, LONGEST_PAGE, LONGEST_ROW, MOST_ROWS, SCRATCH_BYTES,
 };
 
 /// The reading of one page from frames as they come.
 ///
 /// It lays good frames into a list of its own, and reads that list whenever it is asked. It
-/// allocates when it is made, some 57,000 bytes, and never after.
+/// allocates when it is made, some 81,000 bytes, and never after.
 #[derive(Clone)]
 pub struct Scan {
     expected: Option<PageId>,
     rows: usize,
     answer: Option<Answer>,
+    first: Buffers,
+    /// The second list, and what is lent for its reading.
+    second: Buffers,
+    scratch: Vec<u8>,
+}
+
+/// A list, and what is lent for its reading, for any page.
+#[derive(Clone)]
+struct Buffers {
     list: Vec<u8>,
     page: Vec<u8>,
     uses: Vec<u8>,
     roles: Vec<u8>,
-    scratch: Vec<u8>,
+}
+
+impl Buffers {
+    fn new() -> Self {
+        Buffers {
+            list: vec![0; MOST_ROWS * LONGEST_ROW],
+            page: vec![0; LONGEST_PAGE],
+            uses: vec![0; 2 * MOST_ROWS],
+            roles: vec![0; MOST_ROWS],
+        }
+    }
+
+    /// The page that a reading of so many rows left here, if its answer gives one.
+    fn page(&self, id: PageId, answer: Answer, rows: usize) -> Option<Page<'_>> {
+        let Answer::Page { rank, agreement } = answer else {
+            return None;
+        };
+        Some(Page {
+            id,
+            bytes: &self.page[..id.page_bytes()],
+            rows,
+            rank,
+            agreement,
+        })
+    }
 }
 
 impl Scan {
@@ -30,10 +63,8 @@ impl Scan {
             expected: None,
             rows: 0,
             answer: None,
-            list: vec![0; MOST_ROWS * LONGEST_ROW],
-            page: vec![0; LONGEST_PAGE],
-            uses: vec![0; 2 * MOST_ROWS],
-            roles: vec![0; MOST_ROWS],
+            first: Buffers::new(),
+            second: Buffers::new(),
             scratch: vec![0; SCRATCH_BYTES],
         }
     }
@@ -77,7 +108,7 @@ impl Scan {
             None => read_frame(frame)?.id,
         };
         let arrival = self.rows;
-        lay(frame, expected, arrival, &mut self.list)?;
+        lay(frame, expected, arrival, &mut self.first.list)?;
         self.expected = Some(expected);
         self.rows += 1;
         self.answer = None;
@@ -117,26 +148,77 @@ impl Scan {
         let answer = read_list(
             id.n,
             id.l,
-            &self.list[..self.rows * id.row_bytes()],
-            &mut self.page,
-            &mut self.uses,
-            &mut self.roles,
+            &self.first.list[..self.rows * id.row_bytes()],
+            &mut self.first.page,
+            &mut self.first.uses,
+            &mut self.first.roles,
             &mut self.scratch,
         );
         self.answer = Some(answer);
-        let Answer::Page { rank, agreement } = answer else {
-            return Err(Next::after(answer, self.rows));
-        };
-        Ok(Page {
-            id,
-            bytes: &self.page[..id.page_bytes()],
-            rows: self.rows,
-            rank,
-            agreement,
-        })
+        let page = self.first.page(id, answer, self.rows);
+        page.ok_or(Next::after(answer, self.rows))
     }
 
-    /// The answer to the rows laid so far; None if they were not read since the last was laid.
+    /// Reads both versions of the page: what [`read`](Scan::read) gives, and what those rows give
+    /// that do not agree with it.
+    ///
+    /// ```
+    /// use mekorvat::{Other, Scan};
+    ///
+    /// let mut scan = Scan::new();
+    /// let mut frame = [1, 0, 4, 0, 0, 0, 5, 2, 0, 2, 1, 1, 3, 0, 4, 0, 0, 0, 0, 4, 0, 1, 7];
+    /// scan.offer(&frame)?; // one phone saved 7
+    /// frame[22] = 9;
+    /// scan.offer(&frame)?; // another saved 9
+    /// scan.offer(&frame)?;
+    ///
+    /// let versions = scan.read_both().unwrap();
+    /// assert_eq!((versions.page.bytes, versions.page.agreement), (&[9][..], 2));
+    /// match versions.other {
+    ///     Other::None => println!("every frame agrees"),
+    ///     Other::Page(other) => assert_eq!((other.bytes, other.agreement), (&[7][..], 1)),
+    ///     Other::Unsettled(next) => println!("of the other frames: {next}"),
+    /// }
+    /// # assert!(matches!(scan.read_both().unwrap().other, Other::Page(_)));
+    /// # Ok::<(), mekorvat::LayRefusal>(())
+    /// ```
+    pub fn read_both(&mut self) -> Result<Versions<'_>, Next> {
+        let Some(id) = self.expected else {
+            return Err(Next::ScanMore);
+        };
+        let both = read_both(
+            id.n,
+            id.l,
+            &self.first.list[..self.rows * id.row_bytes()],
+            &mut self.first.page,
+            &mut self.first.uses,
+            &mut self.first.roles,
+            Second {
+                list: &mut self.second.list,
+                page: &mut self.second.page,
+                uses: &mut self.second.uses,
+                roles: &mut self.second.roles,
+            },
+            &mut self.scratch,
+        );
+        let Both {
+            first,
+            second,
+            rows,
+        } = both;
+        self.answer = Some(first);
+        let page = self.first.page(id, first, self.rows);
+        let page = page.ok_or(Next::after(first, self.rows))?;
+        let other = match self.second.page(id, second, rows) {
+            _ if rows == 0 => Other::None,
+            Some(other) => Other::Page(other),
+            None => Other::Unsettled(Next::after(second, self.rows)),
+        };
+        Ok(Versions { page, other })
+    }
+
+    /// The answer to the rows laid so far; None if they were not read since the last was laid. Of
+    /// both readings it is the first one's.
     pub fn answer(&self) -> Option<Answer> {
         self.answer
     }
@@ -147,7 +229,7 @@ impl Scan {
             Some(answer) if answer.fills_marks() => self.rows,
             _ => 0,
         };
-        marks(&self.uses[..2 * marked], &self.roles[..marked])
+        marks(&self.first.uses[..2 * marked], &self.first.roles[..marked])
     }
 }
 

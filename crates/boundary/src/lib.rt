@@ -1,4 +1,4 @@
-// What a phone app calls: three functions over the C boundary, for any bytes at all. The result is document 01's answer number, the other
+// What a phone app calls: four functions over the C boundary, for any bytes at all. The result is document 01's answer number, the other
 // numbers come back through references, and a refusal gives those that have no meaning as 0.
 ghost use mathlib.Core.Path.{_≡_};
 ghost use Prim.Native.Nat.{_*_};
@@ -7,10 +7,9 @@ ghost use Rattle.frame.specs.Reading.{reading};
 ghost use Rattle.frame.specs.Numbers.{numbersOf};
 ghost use Rattle.laying.specs.Laying as laying;
 ghost use Rattle.reader.specs.Finish.{buffers};
+ghost use Rattle.both.specs.Parts.{second};
 ghost use Rattle.boundary.specs.Crossed.{framed, told, answered, crossed};
-
-mod pairs;
-
+ghost use Rattle.boundary.specs.CrossedBoth.{crossing, crossedBoth};
 use rows::Arrival;
 
 // Reads a frame: where its payload starts, and what the frame says.
@@ -79,4 +78,42 @@ pub extern "C" fn mekorvat_read_list(
     *place = numbers.place;
     *agreement = numbers.agreement;
     numbers.number
+}
+
+// Reads a list, and the rows of it that do not agree with the page that it gives.
+#[no_mangle]
+pub extern "C" fn mekorvat_read_both(
+    n: u8,
+    l: u8,
+    list: &[u8],
+    page: &mut [u8],
+    uses: &mut [u8],
+    roles: &mut [u8],
+    list2: &mut [u8],
+    page2: &mut [u8],
+    uses2: &mut [u8],
+    roles2: &mut [u8],
+    scratch: &mut [u8],
+    numbers: &mut [u64; 8],
+) -> u8
+    ensures { λ r. ⌜ crossing r (now (numbers .exit)) (buffers (now (page .exit)) (now (uses .exit)) (now (roles .exit)) (now (scratch .exit))) (second (now (list2 .exit)) (now (page2 .exit)) (now (uses2 .exit)) (now (roles2 .exit)))
+        ≡ crossedBoth n l (now (list .entry)) (buffers (now (page .entry)) (now (uses .entry)) (now (roles .entry)) (now (scratch .entry)))
+        (second (now (list2 .entry)) (now (page2 .entry)) (now (uses2 .entry)) (now (roles2 .entry))) ⌝ }
+{
+    let answers = versions::read(
+        n,
+        l,
+        list,
+        page,
+        uses,
+        roles,
+        list2,
+        page2,
+        uses2,
+        roles2,
+        scratch,
+    );
+    *numbers = both::numbers_of(answers);
+    let first = answers.first;
+    reading::numbers_of(first).number
 }

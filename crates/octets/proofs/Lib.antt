@@ -5,6 +5,7 @@ pub mod Digits
 pub mod Runs
 pub mod Back
 pub mod Views
+pub mod Walk
 pub mod Fill
 pub mod Lay
 pub mod Laid

@@ -8,7 +8,7 @@ use mathlib.Core.Bool.{Bool, true, false, cond, not, _&&_}
 use mathlib.Core.List.{List, [], _∷_, map}
 use lib.Dec.{eqb, leb}
 use lib.ListN.{length}
-use borrow.Author.Tests.{eqb-true, leb-true, leb-false, le-leb}
+use borrow.Author.Tests.{eqb-true, leb-true, leb-false, le-leb, lt-leb}
 use Rattle.space.specs.Lists.{Below}
 use Rattle.space.proofs.Both.{both}
 use Rattle.rows.specs.Rows.{shape, rowBytes, rowCount, rowsOf, constraint}
@@ -90,6 +90,11 @@ stray-none n l i (r ∷ rows) e = go _ (leb (2 ^ n) (constraint l r)) refl e (st
         → (strayFrom n l (suc i) rows ≡ passes → Below (2 ^ n) (map (constraint l) rows)) → (constraint l r < 2 ^ n) × Below (2 ^ n) (map (constraint l) rows)
     go a true p q ih = absurd (refuses≢passes a q)
     go a false p q ih = (leb-false (2 ^ n) (constraint l r) p, ih q)
+
+pub none-stray : (n l i : ℕ) (rows : List ℕ) → Below (2 ^ n) (map (constraint l) rows) → strayFrom n l i rows ≡ passes
+unfolding strayFrom
+none-stray n l i [] b = refl
+none-stray n l i (r ∷ rows) b = rw (lt-leb (2 ^ n) (constraint l r) (b .0)) (none-stray n l (suc i) rows (b .1))
 
 -- a list of whole rows, 512 at most
 multiple : (l : ℕ) (list : List ℕ) → wholeRows l list ≡ true → length list % rowBytes l ≡ 0

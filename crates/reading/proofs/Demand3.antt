@@ -23,8 +23,8 @@ use Rattle.reading.specs.declared.Answer.{Answer}
 use Rattle.reading.specs.declared.Answer.the-variants as answer
 use Rattle.reading.specs.Answer.{numbersOf}
 use Rattle.reading.specs.Reading.{kept, rank, picked, pickedRows, symbol, pageOf, agreement, few, tie, singular}
-use Rattle.reading.specs.Outcome.{Lent, Outcome, checks, passes, usesMarks, rolesMarks, ended, solved, read, after, outcome, plain, telling}
-use Rattle.reading.specs.Added.{gave, added}
+use Rattle.reading.specs.Outcome.{Lent, Outcome, checks, passes, usesMarks, rolesMarks, ended, solved, read, after, outcome, plain, telling, gave}
+use Rattle.reading.specs.Added.{added}
 use Rattle.reading.proofs.Linear.{map-kept, map-rank, map-uses, map-picked, map-pickedRows}
 use Rattle.reading.proofs.Pick.{picked-size, picked-inside}
 use Rattle.reading.proofs.Page.{unit-named, length-pageOf}
@@ -92,8 +92,8 @@ module _ (n l : ℕ) (q : List ℕ) (size : length q ≡ n) (b : Below (2 ^ (8 *
             ap (λ (s : List ℕ). sumOf s set) (sym (map-both (named q) (constraint l) (λ r. named q (constraint l r)) (λ r. refl) (pickedRows n rows)))
             ∙ unit-named n l (pickedRows n rows) (picked-inside n l (2 ^ n) rows within) free (picked-size n rows none) q size k h
 
-    page-moved : pageOf n l (pickedRows n moved) ≡ plus (pageOf n l (pickedRows n rows)) q
-    unfolding pageOf
+    pub page-moved : pageOf n l (pickedRows n (map (shifted l q) rows)) ≡ plus (pageOf n l (pickedRows n rows)) q
+    unfolding pageOf moved
     page-moved =
         rw picked-moved (tabulate-ext n _ _ symbol-moved ∙ ap (λ (m : ℕ). tabulate m (λ k. symbol l (pickedRows n rows) k ⊕ getD q k 0)) (sym size)
         ∙ tabulate-plus (symbol l (pickedRows n rows)) q ∙ ap (λ (m : ℕ). plus (tabulate m (symbol l (pickedRows n rows))) q) size)

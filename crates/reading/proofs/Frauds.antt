@@ -15,8 +15,8 @@ use Rattle.rows.specs.Shift.{shiftedList}
 use Rattle.reading.specs.declared.Answer.{Answer}
 use Rattle.reading.specs.declared.Answer.the-variants as answer
 use Rattle.reading.specs.Answer.{numbersOf}
-use Rattle.reading.specs.Outcome.{Lent, Outcome, outcome, roomy}
-use Rattle.reading.specs.Added.{gave, added}
+use Rattle.reading.specs.Outcome.{Lent, Outcome, outcome, roomy, gave}
+use Rattle.reading.specs.Added.{added}
 use Rattle.reading.specs.Worked.{Case, k2, k4, k7, cases, listOf, Seen, seen, expected}
 use Rattle.reading.specs.Frauds.{Reader, withAnswer, withPage, withUses, ranked, agreeing, refusesAll, doesNothing, fixedPage, firstRow, inventsUses, inventsRank, inventsAgreement}
 use Rattle.reading.proofs.Checks.{Fits, roomy-fits, fits-roomy}

@@ -7,6 +7,7 @@ pub mod Pick
 pub mod Page
 pub mod Checks
 pub mod Demand1
+pub mod Given
 pub mod Demand2
 pub mod Demand3
 pub mod Worked

@@ -48,6 +48,9 @@ pub getD-mapped : (f : ℕ → ℕ) (xs : List ℕ) (j : ℕ) → j < length xs 
 getD-mapped f xs j h = getD-any (map f xs) j 0 (f 0) (omega (arith, length-map xs f)) ∙ List·getD-map f xs j 0
 
 -- there is a mark for each row
-pub length-marks : (l : ℕ) (list : List ℕ) → length (usesMarks (rowsOf l list)) ≡ rowCount l list
+pub marks-rows : (rows : List ℕ) → length (usesMarks rows) ≡ length rows
 unfolding usesMarks
-length-marks l list = length-spread 65535 (kept (rowsOf l list)) (uses (rowsOf l list)) ∙ length-kept (rowsOf l list) ∙ length-rowsOf l list
+marks-rows rows = length-spread 65535 (kept rows) (uses rows) ∙ length-kept rows
+
+pub length-marks : (l : ℕ) (list : List ℕ) → length (usesMarks (rowsOf l list)) ≡ rowCount l list
+length-marks l list = marks-rows (rowsOf l list) ∙ length-rowsOf l list

@@ -1,16 +1,10 @@
 -- An outcome with a second page added to its page. Demand 3.
 use Prim.Native.Nat.{ℕ}
-use mathlib.Core.Bool.{Bool, cond}
+use mathlib.Core.Bool.{cond}
 use mathlib.Core.List.{List}
-use lib.Dec.{eqb}
 use lib.ListN.{length, take}
 use Rattle.octets.specs.Octets.{xorBytes, over}
-use Rattle.reading.specs.Answer.{numbersOf}
-use Rattle.reading.specs.Outcome.{Outcome}
-
--- Whether an outcome gives a page.
-unfoldable pub gave : Outcome → Bool
-gave o = eqb (numbersOf (o .answer) .number) 0
+use Rattle.reading.specs.Outcome.{Outcome, gave}
 
 -- "where a page was given, the new page is the old one with the second page added bit by bit"; all else is the same.
 unfoldable pub added : List ℕ → Outcome → Outcome

@@ -8,6 +8,7 @@ use Rattle.octets.specs.Octets.{flat, over}
 use Rattle.rows.specs.Rows.{shape, rowBytes, rowCount, rowsOf, constraint}
 use Rattle.reading.specs.declared.Answer.{Answer}
 use Rattle.reading.specs.declared.Answer.the-variants as answer
+use Rattle.reading.specs.Answer.{numbersOf}
 use Rattle.reading.specs.Reading.{kept, rank, uses, picked, pickedRows, pageOf, agreement, few, tie, singular}
 
 -- The lent buffers that a reading may write.
@@ -121,3 +122,7 @@ after passes n l rows lent = read n l rows lent
 -- Of any list of bytes and any lent buffers.
 unfoldable pub outcome : ℕ → ℕ → List ℕ → Lent → Outcome
 outcome n l list lent = after (checks n l list lent) n l (rowsOf l list) lent
+
+-- Whether it gives a page.
+unfoldable pub gave : Outcome → Bool
+gave o = eqb (numbersOf (o .answer) .number) 0

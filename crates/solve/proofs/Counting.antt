@@ -17,7 +17,7 @@ use Rattle.rows.specs.Make.{cut, bytesAgree}
 use Rattle.rows.proofs.Lists.{length-rowsOf}
 use Rattle.rows.proofs.Written.{bytesAgree-row}
 use Rattle.reading.specs.Reading.{agreement}
-use Rattle.solve.proofs.Walk.{Walk, restIn, walk-start, walk-more, rest-all, rest-more, rest-none, row-size}
+use Rattle.octets.proofs.Walk.{Walk, restIn, walk-start, walk-more, rest-all, rest-more, rest-none, row-size}
 
 pub record Counting (l : ℕ) (list page : List ℕ) (sum i at : ℕ) : Type 0 where
   pub walk : Walk (8 + l) list i at

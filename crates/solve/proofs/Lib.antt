@@ -4,7 +4,6 @@ pub mod Chosen
 pub mod Slots
 pub mod Offers
 pub mod Entering
-pub mod Walk
 pub mod Offering
 pub mod Units
 pub mod Writing

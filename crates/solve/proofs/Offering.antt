@@ -12,7 +12,7 @@ use lib.Seq.{drop-cons}
 use Rattle.octets.specs.Octets.{number}
 use Rattle.solve.specs.Solve.{chosen, leaves, fill}
 use Rattle.solve.specs.Parts.{Ready, slotsIn, rowsIn, Fills}
-use Rattle.solve.proofs.Walk.{Walk, restIn, walk-start, walk-more, rest-all, rest-more, rest-none, row-size}
+use Rattle.octets.proofs.Walk.{Walk, restIn, walk-start, walk-more, rest-all, rest-more, rest-none, row-size}
 use Rattle.solve.proofs.Offers.{fill-chosen, chosen-none}
 
 pub record Offering (list roles slots₀ : List ℕ) (w : ℕ) (work slots : List ℕ) (i at : ℕ) : Type 0 where

@@ -53,15 +53,15 @@ impl Lengths {
 type Numbers = (u8, usize, usize, usize);
 
 #[derive(Clone)]
-struct Lent {
-    page: Buffer,
-    uses: Buffer,
-    roles: Buffer,
-    scratch: Buffer,
+pub struct Lent {
+    pub page: Buffer,
+    pub uses: Buffer,
+    pub roles: Buffer,
+    pub scratch: Buffer,
 }
 
 impl Lent {
-    fn of(case: &ListCase) -> Self {
+    pub fn of(case: &ListCase) -> Self {
         let mut rng = Rng(case.noise);
         Lent {
             page: Buffer::of_noise(&mut rng, case.lengths.page),
@@ -122,7 +122,7 @@ impl Lent {
         (answer.number(), rank, place, agreement)
     }
 
-    fn same_as(&self, expected: &Lent) -> Result<(), String> {
+    pub fn same_as(&self, expected: &Lent) -> Result<(), String> {
         self.page.same_as("page", &expected.page)?;
         self.uses.same_as("uses", &expected.uses)?;
         self.roles.same_as("roles", &expected.roles)?;

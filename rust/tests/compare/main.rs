@@ -5,6 +5,7 @@
 //! in hexadecimal digits, for a lent buffer its length and the seed of the noise in it, and
 //! `MEKORVAT_CASE='..' cargo test replay -- --ignored` runs it again.
 
+mod both;
 mod buffer;
 mod case;
 mod edges;
@@ -17,3 +18,4 @@ mod replay;
 mod rounds;
 mod scan_examples;
 mod scans;
+mod story;

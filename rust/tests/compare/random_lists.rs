@@ -54,7 +54,7 @@ fn random_lists() {
     assert_frequent(&seen, &all);
 }
 
-fn random_case(round: usize, rng: &mut Rng) -> ListCase {
+pub fn random_case(round: usize, rng: &mut Rng) -> ListCase {
     let kind = KINDS[round % KINDS.len()];
     let (n, l, most) = random_size(rng);
     let m = match kind {

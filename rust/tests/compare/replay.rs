@@ -2,6 +2,7 @@
 
 use std::env;
 
+use crate::both::BothCase;
 use crate::case::{agree, Case, Words};
 use crate::frames::FrameCase;
 use crate::layings::LayCase;
@@ -17,6 +18,7 @@ fn replay() {
         "frame" => agree(&FrameCase::of_words(&mut words)),
         "lay" => agree(&LayCase::of_words(&mut words)),
         "list" => agree(&ListCase::of_words(&mut words)),
+        "both" => agree(&BothCase::of_words(&mut words)),
         "scan" => agree(&ScanCase::of_words(&mut words)),
         other => panic!("there is no case of the kind {other}"),
     };

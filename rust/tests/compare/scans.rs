@@ -2,7 +2,8 @@
 
 use std::fmt;
 
-use mekorvat::{LayRefusal, Next, PageId, Scan};
+use mekorvat::{LayRefusal, Next, Other, PageId, Scan};
+use plain::both::{read_both, Second};
 use plain::number::*;
 use plain::rng::Rng;
 
@@ -67,6 +68,37 @@ impl Model {
         Some((number, rank, agreement, page, uses, roles))
     }
 
+    /// Number and rows of the second list, and its page, where there is a first one.
+    fn read_other(&self) -> Option<(u8, usize, Vec<u8>)> {
+        let id = self.expected?;
+        let buffers = || {
+            (
+                vec![0; id.page_bytes()],
+                vec![0; self.rows],
+                vec![0; self.rows],
+            )
+        };
+        let (mut page, mut uses, mut roles) = buffers();
+        let (mut page2, mut uses2, mut roles2) = buffers();
+        let second = Second {
+            list: &mut self.list.clone(),
+            page: &mut page2,
+            uses: &mut uses2,
+            roles: &mut roles2,
+        };
+        let both = read_both(
+            id.n,
+            id.l,
+            &self.list,
+            &mut page,
+            &mut uses,
+            &mut roles,
+            second,
+            &mut [0; 32_768],
+        );
+        (both.first.number == DONE).then_some((both.second.number, both.rows, page2))
+    }
+
     /// What an app is told where there is no page.
     fn next(&self, number: u8) -> Next {
         match number {
@@ -97,7 +129,27 @@ fn compare_reading(scan: &mut Scan, model: &Model) -> Result<u8, String> {
         }
         Err(next) => same("what to do next", next, model.next(number))?,
     }
+    compare_versions(scan, model)?;
     Ok(number)
+}
+
+fn compare_versions(scan: &mut Scan, model: &Model) -> Result<(), String> {
+    let read = scan.read().map(|page| page.bytes.to_vec());
+    let versions = scan.read_both();
+    let first = versions.map(|versions| versions.page.bytes.to_vec());
+    same("the first version", first, read)?;
+    let (Ok(versions), Some((number, rows, page))) = (versions, model.read_other()) else {
+        return same("whether there is another", versions.is_ok(), false);
+    };
+    match versions.other {
+        Other::None => same("that no row disagrees", rows, 0),
+        Other::Page(other) => {
+            same("the second number", DONE, number)?;
+            same("the second rows", other.rows, rows)?;
+            same("the second page", other.bytes, &page)
+        }
+        Other::Unsettled(next) => same("what to do for the other", next, model.next(number)),
+    }
 }
 
 /// The frames offered to a scan.

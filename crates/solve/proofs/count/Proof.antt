@@ -5,7 +5,7 @@ use native.Mathlib.Nat.{div-le-self}
 use native.Mathlib.Omega.{arith}
 use borrow.Author.Needs.{needs}
 use lib.ListN.{length}
-use Rattle.solve.proofs.Walk.{walk-room}
+use Rattle.octets.proofs.Walk.{walk-room}
 use Rattle.solve.proofs.Counting.{Counting, counting-start, counting-end, counting-more, counting-fits}
 use Rattle.solve.proofs.count.Statement.{statement}
 use Rattle.solve.proofs.count.Tie as tie

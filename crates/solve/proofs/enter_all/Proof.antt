@@ -7,7 +7,7 @@ use borrow.Author.Needs.{needs}
 use borrow.Author.Tests.{not-true, not-false}
 use lib.ListN.{length}
 use Rattle.solve.specs.Parts.{Ready}
-use Rattle.solve.proofs.Walk.{walk-room}
+use Rattle.octets.proofs.Walk.{walk-room}
 use Rattle.solve.proofs.Offering.{Offering, offering-start, offering-ready, offering-end, offering-more, offering-stop}
 use Rattle.solve.proofs.enter_all.Statement.{statement}
 use Rattle.solve.proofs.enter_all.Tie as tie

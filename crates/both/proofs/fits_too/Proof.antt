@@ -1,0 +1,60 @@
+-- `both::fits_too` meets its contract: what the checks say of the second buffers decides.
+-- Assumes nothing.
+use mathlib.Core.Path.{sym, ap, _∙_}
+use borrow.Author.Needs.{needs}
+use Rattle.both.specs.Parts.{fitsToo}
+use Rattle.both.proofs.fits_too.Statement.{statement}
+use Rattle.both.proofs.fits_too.Tie as tie
+
+check-requires : tie.Need-check-requires
+check-requires c κs = search needs
+
+enum-told : tie.Need-enum-told
+enum-told c = search needs
+
+enum-told-2 : tie.Need-enum-told-2
+enum-told-2 c = search needs
+
+enum-told-3 : tie.Need-enum-told-3
+enum-told-3 c = search needs
+
+enum-told-4 : tie.Need-enum-told-4
+enum-told-4 c = search needs
+
+returns : tie.Need-returns
+unfolding fitsToo
+returns c =
+    let S = c .before .before .before .args in
+    ap (λ g. fitsToo g (S .list) (S .list2)) (sym (c .enum-told .given .1) ∙ c .before .before .check .ensures)
+
+returns-2 : tie.Need-returns-2
+unfolding fitsToo
+returns-2 c =
+    let S = c .before .before .before .args in
+    ap (λ g. fitsToo g (S .list) (S .list2)) (sym (c .enum-told2 .given .1) ∙ c .before .before .check .ensures)
+
+returns-3 : tie.Need-returns-3
+unfolding fitsToo
+returns-3 c =
+    let S = c .before .before .before .args in
+    ap (λ g. fitsToo g (S .list) (S .list2)) (sym (c .enum-told3 .given .1) ∙ c .before .before .check .ensures)
+
+returns-4 : tie.Need-returns-4
+unfolding fitsToo
+returns-4 c =
+    let S = c .before .before .before .args in
+    ap (λ g. fitsToo g (S .list) (S .list2)) (sym (c .enum-told4 .given .1) ∙ c .before .before .check .ensures)
+
+pub fits-too-spec : {M : Type 1} → statement M
+fits-too-spec =
+    tie.close
+    (tie.spec
+    check-requires
+    enum-told
+    enum-told-2
+    enum-told-3
+    enum-told-4
+    returns
+    returns-2
+    returns-3
+    returns-4)

@@ -1,0 +1,4 @@
+pub mod Both
+pub mod Numbers
+pub mod Parts
+pub mod Added

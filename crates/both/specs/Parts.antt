@@ -1,0 +1,71 @@
+-- The steps of reading both: the room, the rows that go into the second list, and its reading.
+use Prim.Native.Nat.{ℕ, suc, _*_, _≤_}
+use mathlib.Core.Path.{_≡_}
+use mathlib.Core.Bool.{Bool, true, false, cond}
+use mathlib.Core.List.{List}
+use lib.Dec.{leb}
+use lib.ListN.{length}
+use Rattle.octets.specs.Octets.{flat, over, lay}
+use Rattle.rows.specs.Rows.{rowBytes}
+use Rattle.rows.specs.Make.{bytesAgree}
+use Rattle.reading.specs.declared.Answer.{Answer}
+use Rattle.reading.specs.Outcome.{Lent, passes, checks, read}
+use Rattle.checks.specs.declared.Gate.{Gate}
+use Rattle.checks.specs.declared.Gate.the-variants as gates
+use Rattle.both.specs.declared.Both.{Both}
+use Rattle.both.specs.Both.{Second, Pair, lentToo}
+
+-- The second buffers, and both results, by their parts.
+abbrev pub second : List ℕ → List ℕ → List ℕ → List ℕ → Second
+second list page uses roles = record { list = list; page = page; uses = uses; roles = roles }
+
+abbrev pub pair : Both → Lent → Second → Pair
+pair answers lent s = record { answers = answers; lent = lent; second = s }
+
+-- ---- the room
+
+-- Of what the checks 1 to 3 say of the second buffers: whether there is room for a second reading and its list, or 1 or 2 comes first.
+unfoldable pub fitsToo : Gate → ℕ → ℕ → Bool
+fitsToo gates.Open list list₂ = leb list list₂
+fitsToo gates.Shape list list₂ = true
+fitsToo gates.List list list₂ = true
+fitsToo gates.Room list list₂ = false
+
+-- ---- the second list
+
+-- One row more, where it does not agree with the page: how many rows there are, and the list.
+pub record Gathered : Type 0 where
+  pub rows : ℕ
+  pub list : List ℕ
+
+abbrev pub gathers : ℕ → List ℕ → Gathered
+gathers rows list = record { rows = rows; list = list }
+
+unfoldable pub placed : List ℕ → List ℕ → ℕ → List ℕ → Gathered
+placed page row k list = cond (bytesAgree page row) (gathers k list) (gathers (suc k) (lay (k * length row) row list))
+
+-- All of them, over the front of the list.
+unfoldable pub gathered : ℕ → List ℕ → List ℕ → Gathered
+gathered l rest list = gathers (length rest) (over (flat (rowBytes l) rest) list)
+
+-- ---- its reading
+
+-- What was checked before: the list passes with the second buffers too, and the second list has room for it.
+pub record Passing (n l : ℕ) (list : List ℕ) (s : Second) (scratch : List ℕ) : Type 0 where
+  pub passing : checks n l list (lentToo scratch s) ≡ passes
+  pub listed : length list ≤ length (s .list)
+
+-- Both answers, and what is lent for the second at exit.
+pub record Ending : Type 0 where
+  pub answers : Both
+  pub second : Second
+  pub scratch : List ℕ
+
+abbrev pub ending : Both → Second → List ℕ → Ending
+ending answers s scratch = record { answers = answers; second = s; scratch = scratch }
+
+unfoldable pub secondly : Answer → ℕ → ℕ → List ℕ → Second → List ℕ → Ending
+secondly first n l rows s scratch =
+    let p = read n l rows (lentToo scratch s) in
+    ending (record { first = first; second = p .answer; rows = length rows })
+    (second (over (flat (rowBytes l) rows) (s .list)) (p .lent .page) (p .lent .uses) (p .lent .roles)) (p .lent .scratch)

@@ -1,0 +1,34 @@
+-- A list read with uses as bytes: two for each row, the high byte first.
+use Prim.Native.Nat.{ℕ, _/_}
+use mathlib.Core.Bool.{Bool, cond, _&&_}
+use mathlib.Core.List.{List}
+use lib.Dec.{leb}
+use lib.ListN.{length, take}
+use Rattle.octets.specs.Octets.{numbers, flat, over}
+use Rattle.reading.specs.declared.Answer.{Answer}
+use Rattle.reading.specs.Answer.{numbersOf}
+use Rattle.reading.specs.Outcome.{Lent, Outcome, outcome}
+
+-- To the reader uses are the numbers that whole pairs of them stand for.
+unfoldable pub pairs : List ℕ → List ℕ
+pairs bytes = numbers 2 (length bytes / 2) bytes
+
+abbrev pub counted : Lent → Lent
+counted lent = record { page = lent .page; uses = pairs (lent .uses); roles = lent .roles; scratch = lent .scratch }
+
+-- At exit the numbers stand as pairs in the bytes again.
+abbrev pub paired : List ℕ → Lent → Lent
+paired bytes lent = record { page = lent .page; uses = over (flat 2 (lent .uses)) bytes; roles = lent .roles; scratch = lent .scratch }
+
+unfoldable pub inPairs : ℕ → ℕ → List ℕ → Lent → Outcome
+inPairs n l list lent =
+    let o = outcome n l list (counted lent) in
+    record { answer = o .answer; lent = paired (lent .uses) (o .lent) }
+
+-- "Numbers 1 to 4 write nothing."
+unfoldable pub writesNothing : Answer → Bool
+writesNothing a = leb 1 (numbersOf a .number) && leb (numbersOf a .number) 4
+
+-- What stands in the uses after an answer: the counts of the rows as pairs at the front, if it writes anything.
+unfoldable pub putMarks : Answer → ℕ → List ℕ → List ℕ → List ℕ
+putMarks a rows counts uses = cond (writesNothing a) uses (over (flat 2 (take rows counts)) uses)

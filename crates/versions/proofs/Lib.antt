@@ -1,0 +1,3 @@
+mod Marking
+mod CountedBoth
+pub mod Settled

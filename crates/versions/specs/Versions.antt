@@ -1,0 +1,20 @@
+-- Both readings with uses as bytes: two for each row, the high byte first.
+use Prim.Native.Nat.{ℕ}
+use mathlib.Core.List.{List}
+use Rattle.octets.specs.Octets.{flat, over}
+use Rattle.reading.specs.Outcome.{Lent}
+use Rattle.both.specs.declared.Both.{Both}
+use Rattle.both.specs.Both.{Second, Pair, both}
+use Rattle.pairs.specs.Pairs.{pairs, counted, paired}
+
+-- Uses are bytes, as in a single reading: to the reader the numbers that pairs of them stand for, and pairs again at exit.
+abbrev pub countedToo : Second → Second
+countedToo s = record { list = s .list; page = s .page; uses = pairs (s .uses); roles = s .roles }
+
+abbrev pub pairedToo : List ℕ → Second → Second
+pairedToo bytes s = record { list = s .list; page = s .page; uses = over (flat 2 (s .uses)) bytes; roles = s .roles }
+
+unfoldable pub bothInPairs : ℕ → ℕ → List ℕ → Lent → Second → Pair
+bothInPairs n l list lent s =
+    let p = both n l list (counted lent) (countedToo s) in
+    record { answers = p .answers; lent = paired (lent .uses) (p .lent); second = pairedToo (s .uses) (p .second) }
