@@ -23,7 +23,7 @@ use Rattle.lines.specs.declared.Page.{Page}
 use Rattle.lines.specs.declared.Sheet.{Sheet}
 use Rattle.lines.specs.declared.Line.{Line}
 use Rattle.lines.specs.declared.Line.the-variants.{Row, Refused}
-use Rattle.lines.specs.Hex.{pairs, bad}
+use Rattle.text.specs.Hex.{pairs, bad}
 use Rattle.lines.specs.Taking.{gives, result, expecting, pageOf, layOn, takeFrame, takeLine}
 use Rattle.lines.proofs.Sound.{Sound, expecting-shaped, good-page}
 

@@ -15,7 +15,7 @@ use Rattle.lines.specs.declared.Sheet.{Sheet}
 use Rattle.lines.specs.declared.Line.{Line}
 use Rattle.lines.specs.declared.Line.the-variants.{Row, Refused}
 use Rattle.lines.specs.declared.Taken.{Taken}
-use Rattle.lines.specs.Hex.{pairs, bad}
+use Rattle.text.specs.Hex.{pairs, bad}
 
 -- The line's result with the sheet after it, and the list at exit.
 pub record Outcome : Type 0 where

@@ -1,10 +1,4 @@
 // What a line of the page reader's input gives, after the lines before it. Document 01, "The page reader program".
-mod text;
-
-pub use text::Hex;
-pub use text::Spelled;
-pub use text::spell;
-pub use text::unhex;
 ghost use mathlib.Core.Path.{_≡_};
 ghost use Prim.Native.Nat.{_≤_};
 ghost use lib.ListN.{length};
@@ -14,6 +8,7 @@ ghost use Rattle.lines.specs.Taking as spec;
 use frame::Frame;
 use laying::Laid;
 use rows::Arrival;
+use text::Hex;
 
 // A line has at most 256 characters, so its frame at most half as many bytes.
 const MOST_BYTES: usize = 128;
@@ -137,7 +132,7 @@ fn take_bytes(line: &[u8], sheet: Sheet, frame: &mut [u8], list: &mut [u8]) -> T
     ensures taken { λ r. ⌜ r ≡ spec.takeLine (now (line .entry)) sheet (now (list .entry)) .taken ⌝ }
     ensures list { λ r. ⌜ now (list .exit) ≡ spec.takeLine (now (line .entry)) sheet (now (list .entry)) .list ⌝ }
 {
-    let hex = unhex(line, frame);
+    let hex = text::unhex(line, frame);
     let Hex::Bytes(k) = hex else {
         return Taken {
             line: Line::Refused(17, 0),

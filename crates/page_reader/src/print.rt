@@ -4,8 +4,8 @@ ghost use lib.ListN.{length};
 use libc::STDOUT_FILENO;
 use lines::Line;
 use lines::Page;
-use lines::Spelled;
 use reading::Answer;
+use text::Spelled;
 
 // Puts words behind the first `at` characters, as far as there is room, and gives where they end.
 fn put(text: &mut [u8], at: usize, words: &[u8]) -> usize
@@ -76,7 +76,7 @@ pub(crate) fn page(bytes: &[u8])
     requires { ⌜ length (now bytes) ≤ 2048 ⌝ }
 {
     let mut text = [0u8; 4097];
-    let spelled = lines::spell(bytes, &mut text);
+    let spelled = text::spell(bytes, &mut text);
     let Spelled::Characters(k) = spelled else {
         return;
     };

@@ -24,7 +24,8 @@ use Rattle.reading.proofs.Pick.{picked-size, picked-inside}
 use Rattle.reading.proofs.Page.{length-pageOf, pageOf-below}
 use Rattle.solve.specs.declared.Solved.{Solved}
 use Rattle.solve.specs.declared.Solved.the-variants.{Page, Singular, Misfit}
-use Rattle.solve.specs.Solve.{filled, pageIn, solveAnswer, solvePage, agreementOf}
+use Rattle.solve.specs.Solve.{filled, pageIn, solveAnswer, solvePage}
+use Rattle.agreement.specs.Agreement.{agreementOf}
 use Rattle.solve.proofs.Filling.{Solving, fill-empty}
 use Rattle.solve.proofs.Pages.{page-right}
 use Rattle.reader.specs.Finish.{ends, finished, Solvable}

@@ -78,7 +78,7 @@ fn finish(
     match solved {
         Solved::Page => {
             let end = n as usize * l as usize;
-            let agreement = solve::agreement(l, list, &page[..end]);
+            let agreement = agreement::agreement(l, list, &page[..end]);
             Answer::Page { rank, agreement }
         }
         Solved::Singular => Answer::Singular { rank },

@@ -1,19 +1,17 @@
 -- One row in bytes that goes into slots: what `slots::reduce` answers and leaves, as the model has it.
 -- Assumes nothing.
-use mathlib.Core.Path.{_≡_, refl, sym, ap₂, _∙_}
+use mathlib.Core.Path.{_≡_, sym, ap₂, _∙_}
 use Prim.Native.Nat.{ℕ, _*_, _-_, _≤_, _<_}
 use native.Mathlib.Omega.{arith}
-use mathlib.Core.Bool.{Bool, true, false, cond}
+use mathlib.Core.Bool.{Bool, true, false}
 use mathlib.Core.List.{List, [], _∷_}
-use lib.Dec.{ltb}
 use lib.ListN.{length, set}
 use lib.Seq.{set-out}
-use borrow.Author.Tests.{lt-ltb, le-ltb, ltb-true, ltb-false}
+use borrow.Author.Tests.{lt-ltb, le-ltb}
 use Rattle.space.specs.Lists.{Below}
 use Rattle.octets.specs.Octets.{number, bytes}
 use Rattle.octets.proofs.Numbers.{number-lt, number-bytes}
 use Rattle.octets.proofs.Runs.{length-numbers, numbers-small}
-use Rattle.slots.specs.declared.Reduced.the-variants.{Stopped, Spent, Misfit}
 use Rattle.basis.specs.Algorithm2.{Pass, pass}
 use Rattle.slots.specs.Reducing.{fits, slotsOf, passOf, stopOf, reduceAnswer, reduceWork}
 use Rattle.slots.proofs.Fits.{fits-when}

@@ -9,6 +9,5 @@ pub mod Units
 pub mod Writing
 pub mod Solves
 pub mod Outcomes
-pub mod Counting
 pub mod Settled
 pub mod Answers

@@ -1,4 +1,4 @@
--- Each contract of this crate settles the answer and every lent byte.
+-- The contract of `solve::solve` settles the answer and every lent byte.
 -- Assumes nothing.
 use mathlib.Core.Path.{_≡_, ap, _∙_}
 use mathlib.Core.List.{List}
@@ -8,8 +8,6 @@ use Rattle.solve.specs.declared.Solved.{Solved}
 use Rattle.solve.specs.Solve.{solveSlots, solvePage}
 use Rattle.solve.proofs.solve.Kinds as solve
 use Rattle.solve.proofs.solve.Reads as solve-contract
-use Rattle.solve.proofs.agreement.Kinds as agreement
-use Rattle.solve.proofs.agreement.Reads as agreement-contract
 
 slots-by : (r s : Solved) (l : ℕ) (slots now : List ℕ) → r ≡ s → now ≡ solveSlots r l slots → now ≡ solveSlots s l slots
 slots-by r s l slots now e f = f ∙ ap (λ a. solveSlots a l slots) e
@@ -23,6 +21,3 @@ solve-settled κs args =
       is .0 i,
       (tt, (tt, (tt, (tt, (slots-by _ _ _ _ _ (is .0) (is .1 .0) i, (page-by _ _ _ _ _ _ _ _ (is .0) (is .1 .1) i, tt)))))),
     ))
-
-pub agreement-settled : Settles agreement.ps agreement.r agreement-contract.Post
-agreement-settled κs args = unique (λ o is. ap (λ r. (r, (tt, (tt, (tt, tt))))) is)

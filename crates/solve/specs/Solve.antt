@@ -1,4 +1,4 @@
--- What solving and the agreement are: rows that go into slots, the page that the slots give, and what the public functions of this
+-- What solving is: rows that go into slots, the page that the slots give, and what the public functions of this
 -- crate answer and leave. Document 01, "How a list is read"; n is the number of symbols and l the bytes of one.
 use Prim.Native.Nat.{ℕ, _*_, _^_}
 use mathlib.Core.Bool.{Bool, true, false, cond, _&&_}
@@ -8,8 +8,6 @@ use lib.ListN.{length, set, replicate}
 use Rattle.space.specs.Lists.{select, tabulate}
 use Rattle.octets.specs.Octets.{flat, over}
 use Rattle.rows.specs.Rows.{shape, rowBytes, rowCount, rowsOf, payload}
-use Rattle.rows.specs.Make.{cut}
-use Rattle.reading.specs.Reading.{agreement}
 use Rattle.reading.specs.Outcome.{wholeRows}
 use Rattle.basis.specs.Algorithm2.{pass}
 use Rattle.solve.specs.declared.Solved.{Solved}
@@ -85,9 +83,3 @@ unfoldable pub solveSlots : Solved → ℕ → List ℕ → List ℕ
 solveSlots Page l slots = over (replicate (slotBytes l) 0) slots
 solveSlots Singular l slots = over (replicate (slotBytes l) 0) slots
 solveSlots Misfit l slots = slots
-
--- ---- the agreement
-
--- "Agreement is the number of list rows, kept or not, that agree with the page", of a page of as many symbols as it has.
-unfoldable pub agreementOf : ℕ → List ℕ → List ℕ → ℕ
-agreementOf l list page = cond (leb 1 l && leb l 32) (agreement l (cut l page) (rowsOf l list)) 0

@@ -1,15 +1,12 @@
-// From the picked rows to the page, or singular; and the agreement.
+// From the picked rows to the page, or singular.
 ghost use mathlib.Core.Path.{_≡_};
 ghost use mathlib.Core.Bool.{true};
 ghost use mathlib.Core.List.{[], _∷_};
 ghost use Prim.Native.Nat.{_+_, _-_, _*_, _/_, _≤_, _<_};
 ghost use lib.ListN.{length, set};
 ghost use Rattle.octets.specs.Octets.{number, bytes, flat, over};
-ghost use Rattle.rows.specs.Rows.{rowsOf};
-ghost use Rattle.rows.specs.Make.{cut};
-ghost use Rattle.reading.specs.Reading.{agreement};
 ghost use Rattle.reading.specs.Outcome.{wholeRows};
-ghost use Rattle.solve.specs.Solve.{chosen, symbolIn, pageIn, fits, solveAnswer, solvePage, solveSlots, agreementOf};
+ghost use Rattle.solve.specs.Solve.{chosen, symbolIn, pageIn, fits, solveAnswer, solvePage, solveSlots};
 ghost use Rattle.solve.specs.Parts.{Ready, slotsIn, rowsIn, Fills, unitOf, Roomy, fillFrom, pageAfter};
 
 // What came of solving. Page and Singular are document 01's answers 0 and 7; Misfit is for arguments that do not fit.
@@ -208,38 +205,4 @@ pub fn solve(n: u8, l: u8, list: &[u8], roles: &[u8], slots: &mut [u8], page: &m
     let all = solve_in(page, &mut slots[..end], list, roles, n as usize, w);
     octets::clear(&mut slots[..end]);
     if all { Solved::Page } else { Solved::Singular }
-}
-
-// ---- the agreement
-
-// How many whole rows of a list agree with the page, for symbols of l bytes.
-fn count(l: usize, list: &[u8], page: &[u8]) -> usize
-    requires { ⌜ (1 ≤ l) × (l ≤ 32) ⌝ }
-    ensures { λ r. ⌜ r ≡ agreement l (cut l (now (page .entry))) (rowsOf l (now (list .entry))) ⌝ }
-{
-    let w = 8 + l;
-    let rows = list.len() / w;
-    let mut sum = 0;
-    let mut at = 0;
-    let mut i = 0;
-    while i < rows {
-        let end = at + w;
-        sum += rows::agrees(page, &list[at..end]) as usize;
-        at = end;
-        i += 1;
-    }
-    sum
-}
-
-// The agreement of a list with a page of as many symbols as it has.
-pub fn agreement(l: u8, list: &[u8], page: &[u8]) -> usize
-    ensures { λ r. ⌜ r ≡ agreementOf l (now (list .entry)) (now (page .entry)) ⌝ }
-{
-    if l < 1 {
-        return 0;
-    }
-    if 32 < l {
-        return 0;
-    }
-    count(l as usize, list, page)
 }

@@ -9,9 +9,9 @@ use mathlib.Core.List.{List}
 use Prim.Native.Nat.{ℕ, _≤_}
 use lib.ListN.{length, take}
 use lib.Seq.{length-take-le}
-use Rattle.lines.specs.Hex.{pairs, bad}
+use Rattle.text.specs.Hex.{pairs, bad}
 use Rattle.lines.specs.Taking.{Outcome, takeFrame}
-use Rattle.lines.proofs.Unhexed.{bytes-told, none-told}
+use Rattle.text.proofs.Unhexed.{bytes-told, none-told}
 use Rattle.lines.proofs.Takes.{line-bad, line-good}
 use Rattle.lines.proofs.take_bytes.Statement.{statement}
 use Rattle.lines.proofs.take_bytes.Tie as tie

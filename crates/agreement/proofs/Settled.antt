@@ -1,0 +1,9 @@
+-- The contract of `agreement::agreement` settles the count.
+-- Assumes nothing.
+use mathlib.Core.Path.{ap}
+use Rattle.octets.proofs.Unique.{unique, Settles}
+use Rattle.agreement.proofs.agreement.Kinds as agreement
+use Rattle.agreement.proofs.agreement.Reads as agreement-contract
+
+pub agreement-settled : Settles agreement.ps agreement.r agreement-contract.Post
+agreement-settled κs args = unique (λ o is. ap (λ r. (r, (tt, (tt, (tt, tt))))) is)

@@ -1,0 +1,4 @@
+pub mod Digits
+pub mod Unhexed
+pub mod Spelt
+pub mod Settled
