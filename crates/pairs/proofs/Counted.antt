@@ -1,9 +1,9 @@
 -- A reading whose uses are lent as pairs: what it leaves in them, from a reading with counts of its own.
 -- Assumes nothing.
 use mathlib.Core.Path.{_≡_, refl, sym, ap, _∙_}
-use Prim.Native.Nat.{ℕ, min, _*_, _/_, _≤_}
+use Prim.Native.Nat.{ℕ, min, _/_, _≤_}
 use native.Mathlib.Omega.{arith}
-use mathlib.Core.Bool.{Bool, true, false, cond, not, _&&_, true≢false}
+use mathlib.Core.Bool.{Bool, true, false, cond, not, _&&_}
 use mathlib.Core.List.{List, []}
 use lib.Dec.{leb}
 use lib.ListN.{length, take}
@@ -149,21 +149,15 @@ module _ (n l : ℕ) (list page roles scratch counts bytes : List ℕ) (size : l
 
   -- ---- by what the answer says
 
-  something : writesNothing a ≡ false → checks n l list own ≡ passes
-  something e = go (checks n l list own) refl
-    where
-      go : (k : Check) → checks n l list own ≡ k → k ≡ passes
-      go passes p = refl
-      go (refuses r) p = absurd (true≢false (sym (refused-nothing r p) ∙ e))
-
-  pub put-room : writesNothing a ≡ false → (rowCount l list ≤ length counts) × (2 * rowCount l list ≤ length bytes)
-  put-room e = (enough (something e), omega (arith, enough (something e), size))
-
-  pub put-same : gives a (buffers page₁ (putMarks a (rowCount l list) counts₁ bytes) roles₁ scratch₁) ≡ inPairs n l list (buffers page bytes roles scratch)
+  pub put-same : length counts₁ ≡ length counts
+      → gives a (buffers page₁ (putMarks a (rowCount l list) counts₁ bytes) roles₁ scratch₁) ≡ inPairs n l list (buffers page bytes roles scratch)
   unfolding putMarks
-  put-same = go (checks n l list own) refl
+  put-same long = go (checks n l list own) refl
     where
       go : (k : Check) → checks n l list own ≡ k
-          → gives a (buffers page₁ (cond (writesNothing a) bytes (over (flat 2 (take (rowCount l list) counts₁)) bytes)) roles₁ scratch₁) ≡ inPairs n l list (buffers page bytes roles scratch)
-      go passes p = rw (passing-something p) (passing-same p)
+          → gives a (buffers page₁ (cond (not (writesNothing a) && (leb (rowCount l list) (length counts₁) && leb (rowCount l list) (length bytes / 2)))
+          (over (flat 2 (take (rowCount l list) counts₁)) bytes) bytes) roles₁ scratch₁)
+          ≡ inPairs n l list (buffers page bytes roles scratch)
+      go passes p =
+          rw (passing-something p, le-leb (rowCount l list) (length counts₁) (omega (arith, enough p, long)), le-leb (rowCount l list) (length bytes / 2) (omega (arith, enough p, size))) (passing-same p)
       go (refuses r) p = rw (refused-nothing r p) (refused-same r p)

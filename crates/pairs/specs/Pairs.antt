@@ -1,6 +1,6 @@
 -- A list read with uses as bytes: two for each row, the high byte first.
 use Prim.Native.Nat.{ℕ, _/_}
-use mathlib.Core.Bool.{Bool, cond, _&&_}
+use mathlib.Core.Bool.{Bool, cond, not, _&&_}
 use mathlib.Core.List.{List}
 use lib.Dec.{leb}
 use lib.ListN.{length, take}
@@ -29,6 +29,7 @@ inPairs n l list lent =
 unfoldable pub writesNothing : Answer → Bool
 writesNothing a = leb 1 (numbersOf a .number) && leb (numbersOf a .number) 4
 
--- What stands in the uses after an answer: the counts of the rows as pairs at the front, if it writes anything.
+-- What stands in the uses after an answer: the counts of the rows as pairs at the front, if it writes anything and there is room for them.
 unfoldable pub putMarks : Answer → ℕ → List ℕ → List ℕ → List ℕ
-putMarks a rows counts uses = cond (writesNothing a) uses (over (flat 2 (take rows counts)) uses)
+putMarks a rows counts uses =
+    cond (not (writesNothing a) && (leb rows (length counts) && leb rows (length uses / 2))) (over (flat 2 (take rows counts)) uses) uses

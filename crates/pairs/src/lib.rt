@@ -1,6 +1,5 @@
 // Uses as bytes: the reader counts them in numbers of its own, and they go out as pairs.
 ghost use mathlib.Core.Path.{_≡_};
-ghost use mathlib.Core.Bool.{false};
 ghost use Prim.Native.Nat.{min, _*_, _/_, _%_, _≤_};
 ghost use lib.ListN.{length};
 ghost use Rattle.octets.specs.Octets.{flat, over};
@@ -42,12 +41,17 @@ fn writes_nothing(answer: Answer) -> bool
     1 <= number && number <= 4
 }
 
-// The counts of the rows go out as pairs, if the answer writes anything.
+// The counts of the rows go out as pairs, if the answer writes anything and there is room for them.
 pub fn put_marks(answer: Answer, rows: usize, uses: &mut [u8], counts: &[u16])
-    requires { ⌜ (writesNothing answer ≡ false → (rows ≤ length (now counts)) × (2 * rows ≤ length (now uses))) ⌝ }
     ensures { λ _. ⌜ now (uses .exit) ≡ putMarks answer rows (now (counts .entry)) (now (uses .entry)) ⌝ }
 {
     if writes_nothing(answer) {
+        return;
+    }
+    if counts.len() < rows {
+        return;
+    }
+    if uses.len() / 2 < rows {
         return;
     }
     put_pairs(uses, &counts[..rows]);

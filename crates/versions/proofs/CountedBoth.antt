@@ -1,11 +1,13 @@
 -- Both readings with uses lent as pairs: what they leave in them, from readings with counts of their own.
 -- Assumes nothing.
 use mathlib.Core.Path.{_≡_, refl, sym, ap, ap₂, _∙_}
-use Prim.Native.Nat.{ℕ, min, _*_, _/_, _≤_}
+use Prim.Native.Nat.{ℕ, min, _/_, _≤_}
 use native.Mathlib.Omega.{arith}
-use mathlib.Core.Bool.{true, false, cond, true≢false}
+use mathlib.Core.Bool.{true, false, cond, not, _&&_}
 use mathlib.Core.List.{List}
+use lib.Dec.{leb}
 use lib.ListN.{length, take}
+use borrow.Author.Tests.{le-leb}
 use Rattle.space.specs.Lists.{Below}
 use Rattle.octets.specs.Octets.{flat, over}
 use Rattle.octets.proofs.Runs.{length-numbers, take-over}
@@ -136,26 +138,21 @@ module _ (n l : ℕ) (list : List ℕ) (lent : Lent) (s : Second) (counts counts
 
   -- ---- by what the first answer says
 
-  something : writesNothing (answers .first) ≡ false → checksBoth n l list own own₂ ≡ passes
-  something e = go (checksBoth n l list own own₂) refl
-    where
-      go : (k : Check) → checksBoth n l list own own₂ ≡ k → k ≡ passes
-      go passes p = refl
-      go (refuses r) p = absurd (true≢false (sym (refused-nothing r p) ∙ e))
-
-  module _ (e : writesNothing (answers .first) ≡ false) where
-    pub put-room : (rowCount l list ≤ length counts) × (2 * rowCount l list ≤ length (lent .uses))
-    put-room = (enough (something e), omega (arith, enough (something e), size))
-
-    pub put-room₂ : (answers .rows ≤ length counts₂) × (2 * answers .rows ≤ length (s .uses))
-    put-room₂ = (enough₂ (something e), omega (arith, enough₂ (something e), size₂))
-
-  pub put-same : Wanted (putMarks (answers .first) (rowCount l list) (left .uses) (lent .uses)) (putMarks (answers .first) (answers .rows) (left₂ .uses) (s .uses))
+  pub put-same : length (left .uses) ≡ length counts → length (left₂ .uses) ≡ length counts₂
+      → Wanted (putMarks (answers .first) (rowCount l list) (left .uses) (lent .uses)) (putMarks (answers .first) (answers .rows) (left₂ .uses) (s .uses))
   unfolding putMarks
-  put-same = go (checksBoth n l list own own₂) refl
+  put-same long long₂ = go (checksBoth n l list own own₂) refl
     where
-      go : (k : Check) → checksBoth n l list own own₂ ≡ k
-          → Wanted (cond (writesNothing (answers .first)) (lent .uses) (over (flat 2 (take (rowCount l list) (left .uses))) (lent .uses)))
-          (cond (writesNothing (answers .first)) (s .uses) (over (flat 2 (take (answers .rows) (left₂ .uses))) (s .uses)))
-      go passes p = rw (passing-something p) (passing-same p)
+      put : ℕ → List ℕ → List ℕ → List ℕ
+      put rows counts uses = cond (not (writesNothing (answers .first)) && (leb rows (length counts) && leb rows (length uses / 2))) (over (flat 2 (take rows counts)) uses) uses
+
+      go : (k : Check) → checksBoth n l list own own₂ ≡ k → Wanted (put (rowCount l list) (left .uses) (lent .uses)) (put (answers .rows) (left₂ .uses) (s .uses))
+      go passes p =
+          rw (
+            passing-something p,
+            le-leb (rowCount l list) (length (left .uses)) (omega (arith, enough p, long)),
+            le-leb (rowCount l list) (length (lent .uses) / 2) (omega (arith, enough p, size)),
+            le-leb (answers .rows) (length (left₂ .uses)) (omega (arith, enough₂ p, long₂)),
+            le-leb (answers .rows) (length (s .uses) / 2) (omega (arith, enough₂ p, size₂)),
+          ) (passing-same p)
       go (refuses r) p = rw (refused-nothing r p) (refused-same r p)

@@ -1,12 +1,11 @@
 -- `pairs::read_counted` meets its contract: what the reader leaves in the counts goes out as pairs.
 -- Assumes nothing.
 use mathlib.Core.Path.{ap, _∙_}
-use native.Mathlib.Omega.{arith}
 use borrow.Author.Needs.{needs}
 use Rattle.octets.proofs.Runs.{known-below}
 use Rattle.rows.specs.Rows.{rowCount}
 use Rattle.reader.specs.Finish.{buffers, gives}
-use Rattle.pairs.proofs.Counted.{put-room, put-same}
+use Rattle.pairs.proofs.Counted.{put-same}
 use Rattle.pairs.proofs.read_counted.Statement.{statement}
 use Rattle.pairs.proofs.read_counted.Tie as tie
 
@@ -20,13 +19,7 @@ div-rows : tie.Need-div-rows
 div-rows c = search needs
 
 put-marks-requires : tie.Need-put-marks-requires
-unfolding rowCount
-put-marks-requires c κs e =
-    let S = c .before .before .before .before .before .before .before .before .before .before .before .before .before .before .before .before .before .before .before .before .before in
-    let R = c .before .before .before .before .before .before .before .before .before .before .read-list in
-    let room = put-room (S .args .n) (S .args .l) (S .args .list .now) (S .args .page .now) (S .args .roles .now) (S .args .scratch .now) (S .args .counts .now) (S .args .uses .now) (S .pre)
-    (known-below (S .args .uses .now) (c .before .before .before .before .before .before .before .before .before .before .before .before .before .before .before .before .before .slice-known3 .given)) (R .result) (R .last .1 .1 .1 .0) (R .last .1 .1 .1 .1 .1 .0) (R .last .1 .1 .1 .1 .1 .1 .0) (R .last .1 .1 .1 .1 .0) (R .ensures) e in
-    (omega (arith, room .0, R .kept .1 .1 .1 .1 .0), room .1)
+put-marks-requires c κs = search needs
 
 same-length : tie.Need-same-length
 same-length c = search needs
@@ -50,7 +43,7 @@ returns c =
     let R = c .before .before .before .before .before .before .before .before .before .before .before .before .before .read-list in
     ap (λ t. gives (R .result) (buffers (R .last .1 .1 .1 .0) t (R .last .1 .1 .1 .1 .1 .0) (R .last .1 .1 .1 .1 .1 .1 .0))) (c .before .before .put-marks .ensures)
     ∙ put-same (S .args .n) (S .args .l) (S .args .list .now) (S .args .page .now) (S .args .roles .now) (S .args .scratch .now) (S .args .counts .now) (S .args .uses .now) (S .pre)
-    (known-below (S .args .uses .now) (c .before .before .before .before .before .before .before .before .before .before .before .before .before .before .before .before .before .before .before .before .slice-known3 .given)) (R .result) (R .last .1 .1 .1 .0) (R .last .1 .1 .1 .1 .1 .0) (R .last .1 .1 .1 .1 .1 .1 .0) (R .last .1 .1 .1 .1 .0) (R .ensures)
+    (known-below (S .args .uses .now) (c .before .before .before .before .before .before .before .before .before .before .before .before .before .before .before .before .before .before .before .before .slice-known3 .given)) (R .result) (R .last .1 .1 .1 .0) (R .last .1 .1 .1 .1 .1 .0) (R .last .1 .1 .1 .1 .1 .1 .0) (R .last .1 .1 .1 .1 .0) (R .ensures) (R .kept .1 .1 .1 .1 .0)
 
 pub read-counted-spec : {M : Type 1} → statement M
 read-counted-spec =

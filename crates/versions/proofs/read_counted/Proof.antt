@@ -12,7 +12,7 @@ use Rattle.reader.specs.Finish.{buffers}
 use Rattle.both.specs.Both.{Second}
 use Rattle.both.specs.Parts.{second, pair}
 use Rattle.versions.proofs.Marking.{withUses, withUsesToo}
-use Rattle.versions.proofs.CountedBoth.{put-room, put-room₂, put-same}
+use Rattle.versions.proofs.CountedBoth.{put-same}
 use Rattle.versions.proofs.read_counted.Statement.{statement}
 use Rattle.versions.proofs.read_counted.Tie as tie
 
@@ -51,21 +51,11 @@ add-rows c =
 div-rows : tie.Need-div-rows
 div-rows c = search needs
 
--- there is a count for each row of either list
 put-marks-requires : tie.Need-put-marks-requires
-unfolding rowCount
-put-marks-requires c κs e =
-    let K = c .before .before .before .before .before .before .before .before .before .before .before .before .before .before .before .before .before .before in
-    let S = startOf K in
-    let room = put-room (S .args .n) (S .args .l) (S .args .list .now) (lentOf S) (secondOf S) (S .args .counts .now) (S .args .counts2 .now) (S .pre .0) (S .pre .1) (below K) (below₂ K) (K .read-both .result) (left K) (left₂ K) (K .read-both .ensures) e in
-    (omega (arith, room .0, K .read-both .kept .1 .1 .1 .1 .0), room .1)
+put-marks-requires c κs = search needs
 
 put-marks-requires-2 : tie.Need-put-marks-requires-2
-put-marks-requires-2 c κs e =
-    let K = c .before .before .before .before .before .before .before .before .before .before .before .before .before .before .before .before .before .before .before .before .before .before .before in
-    let S = startOf K in
-    let room = put-room₂ (S .args .n) (S .args .l) (S .args .list .now) (lentOf S) (secondOf S) (S .args .counts .now) (S .args .counts2 .now) (S .pre .0) (S .pre .1) (below K) (below₂ K) (K .read-both .result) (left K) (left₂ K) (K .read-both .ensures) e in
-    (omega (arith, room .0, K .read-both .kept .1 .1 .1 .1 .1 .1 .1 .1 .0), room .1)
+put-marks-requires-2 c κs = search needs
 
 same-length : tie.Need-same-length
 same-length c = search needs
@@ -103,7 +93,7 @@ returns c =
     let K = c .before .before .before .before .before .before .before .before .before .before .before .before .before .before .before .before .before .before .before .before .before .before .before .before .before .before in
     let S = startOf K in
     ap₂ (λ us vs. pair (K .read-both .result) (withUses us (left K)) (withUsesToo vs (left₂ K))) (c .before .before .before .before .before .before .before .put-marks .ensures) (c .before .before .put-marks2 .ensures)
-    ∙ put-same (S .args .n) (S .args .l) (S .args .list .now) (lentOf S) (secondOf S) (S .args .counts .now) (S .args .counts2 .now) (S .pre .0) (S .pre .1) (below K) (below₂ K) (K .read-both .result) (left K) (left₂ K) (K .read-both .ensures)
+    ∙ put-same (S .args .n) (S .args .l) (S .args .list .now) (lentOf S) (secondOf S) (S .args .counts .now) (S .args .counts2 .now) (S .pre .0) (S .pre .1) (below K) (below₂ K) (K .read-both .result) (left K) (left₂ K) (K .read-both .ensures) (K .read-both .kept .1 .1 .1 .1 .0) (K .read-both .kept .1 .1 .1 .1 .1 .1 .1 .1 .0)
 
 pub read-counted-spec : {M : Type 1} → statement M
 read-counted-spec =
