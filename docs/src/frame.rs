@@ -56,18 +56,21 @@ fn read_fields(frame: &[u8]) -> Result<FrameReading, Refusal> {
 }
 
 /// Where the value of the field at `start` lies, or the first of 11, 12, 13, 11 that applies to it.
+///
+/// The place is the bad byte: for 12 the tag, for 13 the first length byte, and for 11 the frame's
+/// end, where the next byte is missing.
 fn field(frame: &[u8], start: usize, tag: u8, length: usize) -> Result<Range<usize>, Refusal> {
     let &[found, high, low, ref rest @ ..] = &frame[start..] else {
-        return Err((SHORT, start));
+        return Err((SHORT, frame.len()));
     };
     if found != tag {
         return Err((TAG, start));
     }
     if usize::from(u16::from_be_bytes([high, low])) != length {
-        return Err((FIELD_LENGTH, start));
+        return Err((FIELD_LENGTH, start + 1));
     }
     if rest.len() < length {
-        return Err((SHORT, start));
+        return Err((SHORT, frame.len()));
     }
     let value = start + 3;
     Ok(value..value + length)

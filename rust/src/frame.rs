@@ -17,22 +17,22 @@ pub struct Frame<'a> {
     pub payload: &'a [u8],
 }
 
-/// Why a frame is refused. The place is the offset of the field's start.
+/// Why a frame is refused. The place is an offset in the frame: of the bad byte, where one is bad.
 #[derive(Clone, Copy, Debug, PartialEq, Eq)]
 pub enum FrameRefusal {
     /// 11: the frame ends inside a field.
     Short {
-        /// Where the field starts.
+        /// How many bytes the frame has: the offset of the first that is missing.
         place: usize,
     },
     /// 12: a field has another tag than the next one in order.
     WrongTag {
-        /// Where the field starts.
+        /// The offset of the tag, where the field starts.
         place: usize,
     },
     /// 13: a field has another length than its tag asks for.
     WrongLength {
-        /// Where the field starts.
+        /// The offset of the first length byte, behind the tag.
         place: usize,
     },
     /// 14: n or L is out of range.
@@ -59,7 +59,7 @@ impl FrameRefusal {
         }
     }
 
-    /// Document 01's place.
+    /// The offset that the refusal points at.
     pub fn place(self) -> usize {
         match self {
             FrameRefusal::Short { place }
@@ -109,7 +109,7 @@ impl Error for FrameRefusal {}
 /// assert_eq!((read.seed, read.payload), (2, &frame[22..]));
 ///
 /// let refusal = read_frame(&frame[..20]).unwrap_err();
-/// assert_eq!(refusal, FrameRefusal::Short { place: 19 });
+/// assert_eq!(refusal, FrameRefusal::Short { place: 20 });
 /// assert_eq!(refusal.number(), 11);
 /// # Ok::<(), FrameRefusal>(())
 /// ```

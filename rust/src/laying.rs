@@ -33,7 +33,7 @@ impl LayRefusal {
         }
     }
 
-    /// Document 01's place: the frame's for 11 to 15, else 0.
+    /// The frame's place for 11 to 15, else 0.
     pub fn place(self) -> usize {
         match self {
             LayRefusal::Frame(refusal) => refusal.place(),

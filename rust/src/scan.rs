@@ -99,7 +99,7 @@ impl Scan {
     /// let page_6 = [1, 0, 4, 0, 0, 0, 6, 2, 0, 2, 1, 1, 3, 0, 4, 0, 0, 0, 0, 4, 0, 1, 7];
     /// assert_eq!(scan.offer(&page_5), Ok(0));
     /// assert_eq!(scan.offer(&page_6), Err(LayRefusal::OtherPage));
-    /// let cut_off = FrameRefusal::Short { place: 19 };
+    /// let cut_off = FrameRefusal::Short { place: 21 };
     /// assert_eq!(scan.offer(&page_5[..21]), Err(LayRefusal::Frame(cut_off)));
     /// ```
     pub fn offer(&mut self, frame: &[u8]) -> Result<usize, LayRefusal> {

@@ -40,19 +40,20 @@ refused-is (frames.WrongLength place) o = (refl, refl)
 refused-is frames.OutOfRange o = (refl, refl)
 refused-is (frames.Trailing place) o = (refl, refl)
 
-past-placed : (f : Field) (at : ℕ) (next : Frame) → isGood (behind (placed f at) next) ≡ true → (f ≡ field.Whole) × (isGood next ≡ true)
+past-placed : (frame : List ℕ) (at : ℕ) (f : Field) (next : Frame) → isGood (behind (placed frame at f) next) ≡ true
+    → (f ≡ field.Whole) × (isGood next ≡ true)
 unfolding behind placed numbersOf
-past-placed field.Whole at next e = (refl, e)
-past-placed field.Short at next e = absurd (false≢true e)
-past-placed field.WrongTag at next e = absurd (false≢true e)
-past-placed field.WrongLength at next e = absurd (false≢true e)
+past-placed frame at field.Whole next e = (refl, e)
+past-placed frame at field.Short next e = absurd (false≢true e)
+past-placed frame at field.WrongTag next e = absurd (false≢true e)
+past-placed frame at field.WrongLength next e = absurd (false≢true e)
 
 -- a good reading came past each field
 past : (frame : List ℕ) (at tag size : ℕ) (next : Frame) → isGood (behind (expected frame at tag size) next) ≡ true
     → Whole (drop at frame) tag size × (isGood next ≡ true)
 unfolding expected
 past frame at tag size next e =
-    let went = past-placed (fieldOf (drop at frame) tag size) at next e in
+    let went = past-placed frame at (fieldOf (drop at frame) tag size) next e in
     (whole (drop at frame) tag size (went .0), went .1)
 
 -- The four fields of a frame, whole, and nothing behind them.

@@ -5,3 +5,4 @@ pub mod Lengths
 pub mod Exact
 pub mod ReadBack
 pub mod Settled
+pub mod Pointing

@@ -8,3 +8,8 @@ pub passes : {A : Type 0} (right : A → Bool) (b : Bool) (refusal rest : A) →
     → (b ≡ false) × (right rest ≡ true)
 passes right true refusal rest wrong e = absurd (false≢true (sym wrong ∙ e))
 passes right false refusal rest wrong e = (refl, e)
+
+-- what holds of either answer of a test holds of the one given
+pub either : {A : Type 0} (P : A → Type 0) (b : Bool) (x y : A) → (b ≡ true → P x) → (b ≡ false → P y) → P (cond b x y)
+either P true x y px py = px refl
+either P false x y px py = py refl

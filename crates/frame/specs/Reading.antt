@@ -12,7 +12,7 @@ use Rattle.frame.specs.declared.fields.Found.{Found}
 use Rattle.frame.specs.declared.fields.Found.the-variants as found
 use Rattle.frame.specs.declared.Frame.{Frame}
 use Rattle.frame.specs.declared.Frame.the-variants as frames
-use Rattle.frame.specs.Layout.{pageAt, shapeAt, seedAt, payloadAt, frameLength, value}
+use Rattle.frame.specs.Layout.{pageAt, shapeAt, seedAt, payloadAt, lengthAt, frameLength, value}
 
 -- "In each field: under 3 bytes remain, 11 short; wrong tag, 12; wrong length, 13; value not all there, 11".
 unfoldable pub fieldOf : List ℕ → ℕ → ℕ → Field
@@ -23,15 +23,16 @@ fieldOf rest tag size =
     (cond (ltb (length rest) (3 + size)) field.Short
     field.Whole)))
 
--- "The place is the offset of the field's start".
-unfoldable pub placed : Field → ℕ → Found
-placed field.Whole at = found.Whole
-placed field.Short at = found.Refused (frames.Short at)
-placed field.WrongTag at = found.Refused (frames.WrongTag at)
-placed field.WrongLength at = found.Refused (frames.WrongLength at)
+-- "The place is the offset of the field's start"; since wish 2 "the place for 13 should be the first length byte, and for 11 the number of
+-- bytes in the frame."
+unfoldable pub placed : List ℕ → ℕ → Field → Found
+placed frame at field.Whole = found.Whole
+placed frame at field.Short = found.Refused (frames.Short (length frame))
+placed frame at field.WrongTag = found.Refused (frames.WrongTag at)
+placed frame at field.WrongLength = found.Refused (frames.WrongLength (lengthAt at))
 
 unfoldable pub expected : List ℕ → ℕ → ℕ → ℕ → Found
-expected frame at tag size = placed (fieldOf (drop at frame) tag size) at
+expected frame at tag size = placed frame at (fieldOf (drop at frame) tag size)
 
 -- "Reading goes left to right": behind a whole field it goes on.
 unfoldable pub behind : Found → Frame → Frame

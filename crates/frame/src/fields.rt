@@ -4,6 +4,7 @@ ghost use Prim.Native.Nat.{_≤_};
 ghost use lib.ListN.{length};
 ghost use Rattle.frame.specs.Reading.{fieldOf, placed, expected};
 use crate::Frame;
+use crate::layout::LENGTH;
 use crate::layout::MARK;
 
 // What the bytes that remain have in the place of a field.
@@ -30,7 +31,7 @@ fn look(rest: &[u8], tag: u8, size: u8) -> Field
     if rest[0] != tag {
         return Field::WrongTag;
     }
-    if octets::get(&rest[1..MARK]) != size as u64 {
+    if octets::get(&rest[LENGTH..MARK]) != size as u64 {
         return Field::WrongLength;
     }
     if rest.len() - MARK < size as usize {
@@ -40,14 +41,17 @@ fn look(rest: &[u8], tag: u8, size: u8) -> Field
 }
 
 // The one place that gives a refusal its place.
-fn at_place(field: Field, at: usize) -> Found
-    ensures { λ r. ⌜ r ≡ placed field at ⌝ }
+fn at_place(frame: &[u8], at: usize, field: Field) -> Found
+    requires { ⌜ at ≤ length (now frame) ⌝ }
+    ensures { λ r. ⌜ r ≡ placed (now (frame .entry)) at field ⌝ }
 {
+    let length = at + LENGTH;
+    let end = frame.len();
     match field {
         Field::Whole => Found::Whole,
-        Field::Short => Found::Refused(Frame::Short(at)),
+        Field::Short => Found::Refused(Frame::Short(end)),
         Field::WrongTag => Found::Refused(Frame::WrongTag(at)),
-        Field::WrongLength => Found::Refused(Frame::WrongLength(at)),
+        Field::WrongLength => Found::Refused(Frame::WrongLength(length)),
     }
 }
 
@@ -55,5 +59,5 @@ pub(crate) fn expect(frame: &[u8], at: usize, tag: u8, size: u8) -> Found
     requires { ⌜ at ≤ length (now frame) ⌝ }
     ensures { λ r. ⌜ r ≡ expected (now (frame .entry)) at tag size ⌝ }
 {
-    at_place(look(&frame[at..], tag, size), at)
+    at_place(frame, at, look(&frame[at..], tag, size))
 }

@@ -1,4 +1,5 @@
-//! Holds single scans: document 01's example of its program, and what an app may lean on.
+//! Holds single scans: document 01's example of its program, with wish 2's place, and what an app
+//! may lean on.
 
 use mekorvat::{Answer, LayRefusal, Next, PageId, Scan};
 
@@ -12,7 +13,7 @@ fn example_of_the_program() {
         assert_eq!(scan.offer(frame), Ok(arrival));
     }
     let cut = scan.offer(&frames[0][..2]).unwrap_err();
-    assert_eq!((cut.number(), cut.place()), (11, 0));
+    assert_eq!((cut.number(), cut.place()), (11, 2));
     let page = scan.read().unwrap();
     assert_eq!((page.id.page_number, page.id.n, page.id.l), (5, 1, 1));
     assert_eq!((page.rows, page.rank, page.agreement), (3, 2, 2));

@@ -5,6 +5,9 @@ use Rattle.frame.specs.Reading.{placed}
 use Rattle.frame.proofs.fields.at_place.Statement.{statement}
 use Rattle.frame.proofs.fields.at_place.Tie as tie
 
+add-length : tie.Need-add-length
+add-length c = search needs
+
 enum-told : tie.Need-enum-told
 enum-told c = search needs
 
@@ -36,4 +39,4 @@ returns-4 c = rw (c .enum-told4 .given .1)
 pub at-place-spec : {M : Type 1} → statement M
 at-place-spec =
     tie.close
-    (tie.spec enum-told enum-told-2 enum-told-3 enum-told-4 returns returns-2 returns-3 returns-4)
+    (tie.spec add-length enum-told enum-told-2 enum-told-3 enum-told-4 returns returns-2 returns-3 returns-4)
