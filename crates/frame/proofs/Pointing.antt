@@ -9,7 +9,7 @@ use mathlib.Core.List.{List}
 use lib.Dec.{ltb}
 use lib.ListN.{length, getD, take, drop, length-drop}
 use lib.Seq.{drop-drop, getD-drop}
-use borrow.Author.Tests.{lt-ltb, eq-eqb, ne-eqb}
+use borrow.Author.Tests.{le-leb, lt-ltb, eq-eqb, ne-eqb}
 use Rattle.octets.specs.Octets.{number}
 use Rattle.rows.specs.Rows.{shape}
 use Rattle.frame.specs.declared.fields.Field.{Field}
@@ -20,7 +20,7 @@ use Rattle.frame.specs.Layout.{pageAt, shapeAt, seedAt, payloadAt, lengt
 use Rattle.frame.specs.Reading.{fieldOf, placed, expected, behind, first, nOf, lOf, second, third, ended, fourth, good, fromShape, reading}
 use Rattle.frame.specs.Pointed.{someField, badTag, badLength, pointed}
 use Rattle.frame.proofs.Tests.{either}
-use Rattle.frame.proofs.Whole.{Told, told}
+use Rattle.frame.proofs.Whole.{Whole, Told, told}
 
 both-true : (a b : Bool) → a ≡ true → b ≡ true → (a && b) ≡ true
 both-true a b e f = rw (e, f)
@@ -34,10 +34,10 @@ module _ (frame : List ℕ) where
     among : (p : ℕ → ℕ → ℕ → Bool) → p at tag size ≡ true → someField frame p ≡ true
     within : at + (3 + size) ≤ frameLength (lOf frame)
 
-  module _ (at tag size : ℕ) (one : One at tag size) (next : Frame) (right : Right next) where
+  module _ (at tag size : ℕ) (one : One at tag size) (next : Frame) (right : Whole (drop at frame) tag size → Right next) where
     field-right : (f : Field) → Told (drop at frame) tag size f → Right (behind (placed frame at f) next)
     unfolding behind placed pointed badTag badLength
-    field-right field.Whole t = right
+    field-right field.Whole t = right t
     field-right field.Short t = both-true _ _ (eq-eqb (length frame) _ refl) (lt-ltb (length frame) _ (omega (arith, one .within, length-drop at frame)))
     field-right field.WrongTag t =
         let is-bad = ne-eqb (getD frame at 0) tag (λ e. t .1 (getD-drop at frame 0 0 ∙ simp unary-clauses e)) in
@@ -72,9 +72,11 @@ module _ (frame : List ℕ) where
         within = omega arith;
       }
 
-  shape-right : (next : Frame) → Right next → Right (cond (not (shape (nOf frame) (lOf frame))) frames.OutOfRange next)
+  shape-right : Whole (drop shapeAt frame) 2 2 → (next : Frame) → Right next → Right (cond (not (shape (nOf frame) (lOf frame))) frames.OutOfRange next)
   unfolding pointed
-  shape-right next right = either Right (not (shape (nOf frame) (lOf frame))) frames.OutOfRange next (λ out. out) (λ _. right)
+  shape-right two next right =
+      let there = le-leb seedAt (length frame) (omega (arith, two .ends, length-drop shapeAt frame)) in
+      either Right (not (shape (nOf frame) (lOf frame))) frames.OutOfRange next (both-true _ _ there) (λ _. right)
 
   end-right : (next : Frame) → Right next → Right (ended frame (lOf frame) next)
   unfolding ended pointed
@@ -85,9 +87,9 @@ module _ (frame : List ℕ) where
   pub points : pointed frame (reading frame) ≡ true
   unfolding reading first fromShape second third fourth good pointed
   points =
-      past pageAt 1 4 one _
-      (past shapeAt 2 2 two _
-      (shape-right _
-      (past seedAt 3 4 three _
-      (past payloadAt 4 (lOf frame) four _
-      (end-right (good frame (nOf frame) (lOf frame)) refl)))))
+      past pageAt 1 4 one _ (λ _.
+      past shapeAt 2 2 two _ (λ its.
+      shape-right its _
+      (past seedAt 3 4 three _ (λ _.
+      past payloadAt 4 (lOf frame) four _ (λ _.
+      end-right (good frame (nOf frame) (lOf frame)) refl)))))

@@ -1,9 +1,9 @@
 -- What stands at the place of a refusal. Wish 2 of document 02: "Point at the bad byte."
--- `reading` finds the place by looking left to right; this says, of an answer alone, that what it tells of the frame is so.
+-- `reading` finds the place by looking left to right; this holds an answer against the frame without looking that way again.
 use Prim.Native.Nat.{ℕ, _+_}
 use mathlib.Core.Bool.{Bool, true, not, _&&_, _||_}
 use mathlib.Core.List.{List}
-use lib.Dec.{eqb, ltb}
+use lib.Dec.{eqb, leb, ltb}
 use lib.ListN.{length, getD, take, drop}
 use Rattle.octets.specs.Octets.{number}
 use Rattle.rows.specs.Rows.{shape}
@@ -24,12 +24,12 @@ badTag frame place = someField frame (λ at tag size. eqb place at && not (eqb (
 unfoldable pub badLength : List ℕ → ℕ → Bool
 badLength frame place = someField frame (λ at tag size. eqb place (lengthAt at) && not (eqb (number (take 2 (drop place frame))) size))
 
--- 11 points at the frame's end, where bytes are missing; 12 at a bad tag; 13 at a bad length; 14 says of n and L that they are out of range;
+-- 11 points at the frame's end, where bytes are missing; 12 at a bad tag; 13 at a bad length; under 14 n and L are there and out of range;
 -- 15 points at the first byte that is too many.
 unfoldable pub pointed : List ℕ → Frame → Bool
 pointed frame (Good page n l seed) = true
 pointed frame (Short place) = eqb place (length frame) && ltb place (frameLength (lOf frame))
 pointed frame (WrongTag place) = ltb place (length frame) && badTag frame place
 pointed frame (WrongLength place) = ltb (place + 1) (length frame) && badLength frame place
-pointed frame OutOfRange = not (shape (nOf frame) (lOf frame))
+pointed frame OutOfRange = leb seedAt (length frame) && not (shape (nOf frame) (lOf frame))
 pointed frame (Trailing place) = eqb place (frameLength (lOf frame)) && ltb place (length frame)

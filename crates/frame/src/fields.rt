@@ -40,7 +40,7 @@ fn look(rest: &[u8], tag: u8, size: u8) -> Field
     Field::Whole
 }
 
-// The one place that gives a refusal its place.
+// Where a frame is refused inside a field: the places of 11, 12 and 13.
 fn at_place(frame: &[u8], at: usize, field: Field) -> Found
     requires { ⌜ at ≤ length (now frame) ⌝ }
     ensures { λ r. ⌜ r ≡ placed (now (frame .entry)) at field ⌝ }
