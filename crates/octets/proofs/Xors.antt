@@ -4,7 +4,7 @@ use mathlib.Core.Path.{_≡_, refl, ap, ap₂}
 use Prim.Native.Nat.{ℕ, zero, suc, min, _≤_, _<_}
 use native.Mathlib.Omega.{arith}
 use mathlib.Core.List.{List, [], _∷_, _++_, append-nil}
-use lib.ListN.{length, getD, replicate}
+use lib.ListN.{length, take, drop, getD, replicate}
 use lib.Seq.{drop-nil, drop-length}
 use Rattle.space.specs.Space.{_⊕_}
 use Rattle.space.specs.Lists.{Below}
@@ -74,6 +74,23 @@ xorBytes-append [] [] c d h = refl
 xorBytes-append [] (y ∷ b) c d h = absurd (omega arith)
 xorBytes-append (x ∷ a) [] c d h = absurd (omega arith)
 xorBytes-append (x ∷ a) (y ∷ b) c d h = ap (λ t. x ⊕ y ∷ t) (xorBytes-append a b c d (omega arith))
+
+-- ---- parts of a sum
+
+pub drop-xorBytes : (i : ℕ) (a b : List ℕ) → length a ≡ length b → drop i (xorBytes a b) ≡ xorBytes (drop i a) (drop i b)
+unfolding xorBytes
+drop-xorBytes zero a b e = refl
+drop-xorBytes (suc i) [] [] e = refl
+drop-xorBytes (suc i) [] (y ∷ b) e = absurd (omega arith)
+drop-xorBytes (suc i) (x ∷ a) [] e = absurd (omega arith)
+drop-xorBytes (suc i) (x ∷ a) (y ∷ b) e = drop-xorBytes i a b (omega arith)
+
+pub take-xorBytes : (i : ℕ) (a b : List ℕ) → take i (xorBytes a b) ≡ xorBytes (take i a) (take i b)
+unfolding xorBytes
+take-xorBytes zero a b = refl
+take-xorBytes (suc i) [] b = refl
+take-xorBytes (suc i) (x ∷ a) [] = refl
+take-xorBytes (suc i) (x ∷ a) (y ∷ b) = ap (λ t. x ⊕ y ∷ t) (take-xorBytes i a b)
 
 -- ---- bytes added to the front of a buffer
 

@@ -1,0 +1,5 @@
+pub mod Shifted
+pub mod Words
+pub mod Littles
+pub mod Bits
+pub mod Settled

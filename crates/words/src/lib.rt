@@ -1,0 +1,112 @@
+// Eight bytes as one number of 64 bits, and the set bits of such a number: what takes bytes one by one takes them by eights here.
+ghost use mathlib.Core.Path.{_≡_};
+ghost use Prim.Native.Nat.{_-_, _%_, _^_};
+ghost use lib.ListN.{length};
+ghost use Rattle.octets.specs.Octets.{number};
+ghost use Rattle.words.specs.Words.{wordAt, littleOf, littleAt};
+ghost use Rattle.words.specs.Bits.{highest, lowest};
+
+// ---- eight bytes
+
+fn wide(x: u8) -> u64
+    ensures { λ r. ⌜ r ≡ x ⌝ }
+{
+    x as u64
+}
+
+// Eight bytes, the first highest: one load, and its bytes turned about.
+fn eight(from: &[u8]) -> u64
+    requires { ⌜ length (now from) ≡ 8 ⌝ }
+    ensures { λ r. ⌜ r ≡ number (now (from .entry)) ⌝ }
+{
+    (wide(from[0]) << 56)
+        | (wide(from[1]) << 48)
+        | (wide(from[2]) << 40)
+        | (wide(from[3]) << 32)
+        | (wide(from[4]) << 24)
+        | (wide(from[5]) << 16)
+        | (wide(from[6]) << 8)
+        | wide(from[7])
+}
+
+// Eight bytes, the first lowest: one load. The compiler joins these before it decides what to inline, and those above only afterwards.
+fn eight_little(from: &[u8]) -> u64
+    requires { ⌜ length (now from) ≡ 8 ⌝ }
+    ensures { λ r. ⌜ r ≡ littleOf (now (from .entry)) ⌝ }
+{
+    (wide(from[7]) << 56)
+        | (wide(from[6]) << 48)
+        | (wide(from[5]) << 40)
+        | (wide(from[4]) << 32)
+        | (wide(from[3]) << 24)
+        | (wide(from[2]) << 16)
+        | (wide(from[1]) << 8)
+        | wide(from[0])
+}
+
+// The number of the eight bytes from an index on, with zeros for those past the end.
+pub fn word(from: &[u8], i: usize) -> u64
+    ensures { λ r. ⌜ r ≡ wordAt i (now (from .entry)) ⌝ }
+{
+    let n = from.len();
+    if n <= i {
+        return 0;
+    }
+    let left = n - i;
+    if 8 <= left {
+        let e = i + 8;
+        return eight(&from[i..e]);
+    }
+    octets::get(&from[i..]) << (8 * (8 - left))
+}
+
+// The number of the eight bytes from an index on, the first lowest; 0 where there are fewer.
+pub fn little(from: &[u8], i: usize) -> u64
+    ensures { λ r. ⌜ r ≡ littleAt i (now (from .entry)) ⌝ }
+{
+    let n = from.len();
+    if n < 8 {
+        return 0;
+    }
+    if n - 8 < i {
+        return 0;
+    }
+    let e = i + 8;
+    eight_little(&from[i..e])
+}
+
+// ---- the set bits of a word
+
+// The place of the highest set bit; 0 where none is set.
+pub fn top(x: u64) -> usize
+    ensures { λ r. ⌜ r ≡ highest x ⌝ }
+{
+    if x == 0 {
+        return 0;
+    }
+    63 - (u64::leading_zeros(x) as usize)
+}
+
+// The place of the lowest set bit; 64 where none is set.
+pub fn bottom(x: u64) -> usize
+    ensures { λ r. ⌜ r ≡ lowest x ⌝ }
+{
+    u64::trailing_zeros(x) as usize
+}
+
+// What is left without the lowest set bit.
+pub fn without_bottom(x: u64) -> u64
+    ensures { λ r. ⌜ r ≡ x - 2 ^ lowest x ⌝ }
+{
+    if x == 0 {
+        return 0;
+    }
+    x & (x - 1)
+}
+
+// The lowest bits of x, n of them.
+pub fn low(x: u64, n: usize) -> u64
+    ensures { λ r. ⌜ r ≡ x % 2 ^ n ⌝ }
+{
+    if n < 64 { x % (1u64 << n) } else { x }
+}
