@@ -1,21 +1,18 @@
--- Single digits of a number: where the highest stands, what is left of them in a remainder, and those of a byte among bytes.
+-- Single digits of a number: where the highest stands, whether one is set, and what is left of them in a remainder.
 -- Assumes nothing.
-use mathlib.Core.Path.{_≡_, sym, ap, ap₂, _∙_}
+use mathlib.Core.Path.{_≡_, refl, sym, ap, ap₂, _∙_}
 use Prim.Native.Nat.{ℕ, zero, suc, _+_, _-_, _*_, _/_, _%_, _^_, _≤_, _<_}
-use native.Mathlib.Nat.{mod-eq-of-lt, zero-mul, one-mul, div-eq-of-lt, pow-suc}
+use native.Mathlib.Nat.{zero-mul, one-mul, div-eq-of-lt, pow-suc}
+use native.Mathlib.Numerals.{add-one}
 use native.Mathlib.Omega.{arith}
-use mathlib.Core.Bool.{true, false, true≢false}
+use mathlib.Core.Bool.{Bool, true, false, true≢false}
 use lib.Bits.{bitXor, xor-block, xor-lt}
 use lib.Dec.{eqb}
-use lib.Pow.{high, low, field, mod-mod-pow, shr-shr}
-use lib.ListN.{length, getD}
-use mathlib.Core.List.{List, [], _∷_}
+use lib.Pow.{high, field, mod-mod-pow}
+use mathlib.Core.List.{List, _∷_}
 use native.Mathlib.Decide.{decLt}
 use Rattle.space.specs.Space.{_⊕_}
-use Rattle.space.specs.Lists.{Below}
-use Rattle.octets.specs.Octets.{number}
-use Rattle.octets.proofs.Numbers.{number-lt}
-use Rattle.basis.specs.Algorithm2.{digit}
+use Rattle.basis.specs.Algorithm2.{digit, digits}
 
 -- ---- the highest digit
 
@@ -72,45 +69,20 @@ digit-none k x h e = go (decLt x (2 ^ k))
     go (yes l) = l
     go (no l) = absurd (true≢false (sym (digit-top k x (record { low = omega arith; high = h })) ∙ e))
 
--- ---- the digit itself
+-- ---- what a remainder keeps of them
 
-abbrev pub bit : ℕ → ℕ → ℕ
-bit k x = x / 2 ^ k % 2
-
--- a remainder keeps the digits below
-bit-mod : (k j x : ℕ) → bit k (x % 2 ^ (j + (1 + k))) ≡ bit k x
-bit-mod k j x = sym (field (x % 2 ^ (j + (1 + k))) 1 k) ∙ ap (λ (y : ℕ). y / 2 ^ k) (mod-mod-pow x j (1 + k)) ∙ field x 1 k
-
-pub digit-mod : (k j x : ℕ) → digit k (x % 2 ^ (j + (1 + k))) ≡ digit k x
+pub digit-mod : (k m x : ℕ) → k < m → digit k (x % 2 ^ m) ≡ digit k x
 unfolding digit
-digit-mod k j x = ap (λ (y : ℕ). eqb y 1) (bit-mod k j x)
+digit-mod k m x h =
+    let e : m - suc k + (1 + k) ≡ m = omega arith in
+    ap (λ (y : ℕ). eqb y 1) (rw e at (sym (field (x % 2 ^ (m - suc k + (1 + k))) 1 k) ∙ ap (λ (y : ℕ). y / 2 ^ k) (mod-mod-pow x (m - suc k) (1 + k)) ∙ field x 1 k))
 
--- and so does what is added above them
-bit-above : (k m hi lo : ℕ) → k < m → lo < 2 ^ m → bit k (hi * 2 ^ m + lo) ≡ bit k lo
-bit-above k m hi lo h l = sym (whole (hi * 2 ^ m + lo)) ∙ ap (bit k) (low hi m l ∙ sym (mod-eq-of-lt l)) ∙ whole lo
-  where
-    wide : (m - suc k) + (1 + k) ≡ m
-    wide = omega arith
-
-    whole : (x : ℕ) → bit k (x % 2 ^ m) ≡ bit k x
-    whole x = rw wide at (bit-mod k (m - suc k) x)
-
--- a digit is one of what stands above the lowest m
-bit-shift : (m j x : ℕ) → bit (m + j) x ≡ bit j (x / 2 ^ m)
-bit-shift m j x = rw (shr-shr x m j)
-
--- ---- the digits of a byte, among bytes
-
-pub bit-byte : (a : List ℕ) (p j : ℕ) → Below 256 a → p < length a → j < 8 → bit (8 * (length a - suc p) + j) (number a) ≡ bit j (getD a p 0)
-unfolding number
-bit-byte [] p j b h l = absurd (omega arith)
-bit-byte (x ∷ a) zero j b h l =
-    let k : 8 * (suc (length a) - 1) + j ≡ 8 * length a + j = omega arith in
-    rw k (bit-shift (8 * length a) j (x * 2 ^ (8 * length a) + number a) ∙ rw (high x (8 * length a) (number-lt a (b .1))))
-bit-byte (x ∷ a) (suc p) j b h l =
-    let k : 8 * (suc (length a) - suc (suc p)) + j ≡ 8 * (length a - suc p) + j = omega arith in
-    rw k (bit-above (8 * (length a - suc p) + j) (8 * length a) x (number a) (omega arith) (number-lt a (b .1)) ∙ bit-byte a p j (b .1) (omega arith) l)
-
-pub digit-byte : (a : List ℕ) (p j : ℕ) → Below 256 a → p < length a → j < 8 → digit (8 * (length a - suc p) + j) (number a) ≡ digit j (getD a p 0)
-unfolding digit
-digit-byte a p j b h l = ap (λ (y : ℕ). eqb y 1) (bit-byte a p j b h l)
+pub digits-mod : (r k x : ℕ) → r ≤ k → digits r (x % 2 ^ k) ≡ digits r x
+unfolding digits
+digits-mod zero k x h = refl
+digits-mod (suc r) zero x h = absurd (omega arith)
+digits-mod (suc r) (suc k) x h =
+    let e : k + 1 ≡ suc k = add-one k in
+    let one : x % 2 ^ suc k % 2 ≡ x % 2 = rw e at (mod-mod-pow x k 1) in
+    let half : x % 2 ^ suc k / 2 ≡ x / 2 % 2 ^ k = rw e at (field x k 1) in
+    ap₂ (λ (d y : ℕ). eqb d 1 ∷ digits r y) one half ∙ ap (λ (l : List Bool). eqb (x % 2) 1 ∷ l) (digits-mod r k (x / 2) (omega arith))

@@ -1,8 +1,8 @@
 pub mod Digits
-pub mod Leading
 pub mod Passes
 pub mod Slots
 pub mod Stands
+pub mod Cuts
 pub mod Stops
 pub mod Tails
 pub mod Lifted

@@ -3,13 +3,13 @@
 use mathlib.Core.Path.{_≡_}
 use mathlib.Core.List.{List}
 use mathlib.Core.Bool.{true, false, _&&_}
-use Prim.Native.Nat.{ℕ, _+_, _*_, _≤_, _<_}
+use Prim.Native.Nat.{ℕ, _*_, _≤_, _<_}
 use lib.Dec.{leb, ltb}
 use lib.ListN.{length}
 use borrow.Author.Tests.{le-leb, lt-leb, leb-true, lt-ltb, le-ltb, ltb-true}
 use Rattle.echelon.specs.declared.Absorbed.the-variants.{Kept, Other, Misfit}
 use Rattle.basis.specs.Algorithm2.{Pass}
-use Rattle.echelon.specs.State.{mostKept, tailBytes, stateBytes, gives, keptState, countedState, taken, takes, absorption, passIn}
+use Rattle.echelon.specs.State.{mostKept, stateBytes, gives, keptState, countedState, taken, takes, absorption, passIn}
 use Rattle.space.proofs.Both.{both}
 
 -- ---- what fits
@@ -70,7 +70,7 @@ module _ (key : ℕ) (p : Pass) (m r : ℕ) (state : List ℕ) where
   unfolding taken
   taken-other h = rw (le-ltb (p .place) (8 * key) h)
 
-  pub taken-kept : p .place < 8 * key → r < mostKept → taken key p m r state ≡ gives Kept (keptState (key + tailBytes) (p .place) (p .vector) m r state)
+  pub taken-kept : p .place < 8 * key → r < mostKept → taken key p m r state ≡ gives Kept (keptState (p .place) (p .vector) m r state)
   unfolding taken
   taken-kept h l = rw (lt-ltb (p .place) (8 * key) h) (rw (lt-ltb r mostKept l))
 

@@ -17,18 +17,18 @@ use Rattle.octets.proofs.Lay.{length-lay}
 use Rattle.reading.specs.Reading.{kept, keptRows, rank, uses}
 use Rattle.reading.proofs.OneMore.{kept-snoc}
 use Rattle.basis.specs.Algorithm2.{Pass, Working, keeping, step}
-use Rattle.echelon.specs.State.{mostKept, tailBytes, usesAt, flagsAt, usesIn, flagsIn, keptState}
+use Rattle.echelon.specs.State.{mostKept, vectorBytes, tailDigits, usesAt, flagsAt, headsAt, usesIn, flagsIn, headAt, headOf, keptState}
 use Rattle.echelon.specs.Holds.{Holds, flagOf}
 use Rattle.basis.proofs.Model.{rank-most, step-kept}
-use Rattle.echelon.proofs.Places.{sizes, slot-end}
-use Rattle.echelon.proofs.Offers.{Offer, key, before, p, narrow, right, all-below, next, pass-is, ranked, longer, slots-next, test, vector-lt}
+use Rattle.echelon.proofs.Places.{sizes, tail-size, slot-end, head-end, length-headOf}
+use Rattle.echelon.proofs.Offers.{Offer, key, before, p, narrow, wide, right, all-below, next, pass-is, ranked, longer, slots-next, test, vector-lt}
 use Rattle.reading.proofs.Ranks.{rank-kept}
-use Rattle.echelon.proofs.Written.{slots-stay, uses-below, uses-above, flags-stay, flags-more, slots-more, uses-more}
+use Rattle.echelon.proofs.Written.{slots-stay, uses-below, uses-above, flags-above, flags-stay, flags-more, slots-more, uses-more}
 
 module _ {l : ℕ} {rows : List ℕ} {row : ℕ} {state : List ℕ} (O : Offer l rows row state) (e : spans (keptRows rows) row ≡ false) where
-  keeping-is : step mostKept row (before O) ≡ keeping (p O) (before O)
+  keeping-is : step (tailDigits (key O)) row (before O) ≡ keeping (p O) (before O)
   keeping-is =
-      step-kept mostKept (8 * key O) (omega (arith, sizes, O .holds .most)) rows row (all-below O) (before O) (right O) e
+      step-kept (tailDigits (key O)) (8 * key O) (wide O) rows row (all-below O) (before O) (right O) e
       ∙ ap (λ (q : Pass). keeping q (before O)) (pass-is O)
 
   pub stops : p O .place < 8 * key O
@@ -44,42 +44,52 @@ module _ {l : ℕ} {rows : List ℕ} {row : ℕ} {state : List ℕ} (O : Offer l
   abbrev x : ℕ
   x = p O .vector ⊕ 2 ^ rank rows
 
-  wide : mostKept + 8 * key O ≡ 8 * (key O + tailBytes)
-  wide = omega (arith, sizes)
-
-  x-lt : x < 2 ^ (8 * (key O + tailBytes))
+  x-lt : x < 2 ^ (8 * vectorBytes)
   x-lt =
-      let power : 2 ^ rank rows < 2 ^ (mostKept + 8 * key O) = pow-lt (omega (arith, place-left)) in
-      rw wide at (⊕-lt (mostKept + 8 * key O) (p O .vector) (2 ^ rank rows) (vector-lt O stops) power)
+      let power : 2 ^ rank rows < 2 ^ (tailDigits (key O) + 8 * key O) = pow-lt (omega (arith, place-left, tail-size (key O) (narrow O))) in
+      rw (tail-size (key O) (narrow O) .0) at (⊕-lt (tailDigits (key O) + 8 * key O) (p O .vector) (2 ^ rank rows) (vector-lt O stops) power)
 
-  -- ---- the three parts laid
+  -- ---- the four parts laid
+
+  first-slots : p O .place < 320
+  first-slots = omega (arith, stops, narrow O)
 
   abbrev slot : List ℕ
-  slot = lay (p O .place * (key O + tailBytes)) (bytes (key O + tailBytes) x) state
+  slot = lay (p O .place * vectorBytes) (bytes vectorBytes x) state
 
-  slot-size : length (bytes (key O + tailBytes) x) ≡ key O + tailBytes
-  slot-size = length-bytes (key O + tailBytes) x
+  slot-below : p O .place * vectorBytes + length (bytes vectorBytes x) ≤ usesAt
+  slot-below = omega (arith, length-bytes vectorBytes x, slot-end (p O .place) first-slots)
 
-  slot-below : p O .place * (key O + tailBytes) + length (bytes (key O + tailBytes) x) ≤ usesAt
-  slot-below = omega (arith, slot-size, slot-end (key O) (p O .place) (narrow O) stops)
-
-  slot-room : p O .place * (key O + tailBytes) + length (bytes (key O + tailBytes) x) ≤ length state
+  slot-room : p O .place * vectorBytes + length (bytes vectorBytes x) ≤ length state
   slot-room = omega (arith, slot-below, sizes, O .holds .room)
 
   slot-long : length slot ≡ length state
-  slot-long = length-lay (p O .place * (key O + tailBytes)) (bytes (key O + tailBytes) x) state slot-room
+  slot-long = length-lay (p O .place * vectorBytes) (bytes vectorBytes x) state slot-room
+
+  abbrev head : List ℕ
+  head = lay (headAt (p O .place)) (headOf (p O .place) (bytes vectorBytes x)) slot
+
+  head-room : headAt (p O .place) + length (headOf (p O .place) (bytes vectorBytes x)) ≤ length slot
+  head-room = omega (arith, length-headOf (p O .place) (bytes vectorBytes x), head-end (p O .place) first-slots, slot-long, O .holds .room)
+
+  head-long : length head ≡ length state
+  head-long = length-lay (headAt (p O .place)) (headOf (p O .place) (bytes vectorBytes x)) slot head-room ∙ slot-long
+
+  -- a head lies behind all that is held
+  behind : headsAt ≤ headAt (p O .place)
+  behind = head-end (p O .place) first-slots .0
 
   abbrev pair : List ℕ
-  pair = lay (usesAt + 2 * rank rows) (bytes 2 0) slot
+  pair = lay (usesAt + 2 * rank rows) (bytes 2 0) head
 
   pair-below : usesAt + 2 * rank rows + length (bytes 2 0) ≤ flagsAt
   pair-below = omega (arith, sizes, length-bytes 2 0, place-left)
 
-  pair-room : usesAt + 2 * rank rows + length (bytes 2 0) ≤ length slot
-  pair-room = omega (arith, pair-below, sizes, slot-long, O .holds .room)
+  pair-room : usesAt + 2 * rank rows + length (bytes 2 0) ≤ length head
+  pair-room = omega (arith, pair-below, sizes, head-long, O .holds .room)
 
   pair-long : length pair ≡ length state
-  pair-long = length-lay (usesAt + 2 * rank rows) (bytes 2 0) slot pair-room ∙ slot-long
+  pair-long = length-lay (usesAt + 2 * rank rows) (bytes 2 0) head pair-room ∙ head-long
 
   flag-room : flagsAt + length rows + 1 ≤ length pair
   flag-room = omega (arith, pair-long, sizes, O .holds .room, O .more)
@@ -87,7 +97,7 @@ module _ {l : ℕ} {rows : List ℕ} {row : ℕ} {state : List ℕ} (O : Offer l
   flagged : kept (rows ++ (row ∷ [])) ≡ kept rows ++ (true ∷ [])
   flagged = kept-snoc rows row ∙ rw e
 
-  pub kept-holds : Holds l (rows ++ (row ∷ [])) (keptState (key O + tailBytes) (p O .place) (p O .vector) (length rows) (rank rows) state)
+  pub kept-holds : Holds l (rows ++ (row ∷ [])) (keptState (p O .place) (p O .vector) (length rows) (rank rows) state)
   unfolding keptState
   kept-holds =
       record {
@@ -97,19 +107,22 @@ module _ {l : ℕ} {rows : List ℕ} {row : ℕ} {state : List ℕ} (O : Offer l
         many = omega (arith, longer O, O .more);
         below = all-below O;
         slots = slots-stay (flagsAt + length rows) (1 ∷ []) pair flag-room (key O) (narrow O) (omega (arith, sizes))
-            ∙ slots-stay (usesAt + 2 * rank rows) (bytes 2 0) slot pair-room (key O) (narrow O) (omega arith)
+            ∙ slots-stay (usesAt + 2 * rank rows) (bytes 2 0) head pair-room (key O) (narrow O) (omega arith)
+            ∙ slots-stay (headAt (p O .place)) (headOf (p O .place) (bytes vectorBytes x)) slot head-room (key O) (narrow O) (omega (arith, behind, sizes))
             ∙ slots-more (key O) (p O .place) x (rank rows) state (narrow O) stops (O .holds .room) x-lt
             ∙ ap₂ (λ (ss : List ℕ) (n : ℕ). set ss (p O .place) (p O .vector ⊕ 2 ^ n)) (O .holds .slots) (sym (ranked O))
             ∙ sym (slots-next O ∙ ap (λ (s : Working). s .slots) keeping-is ∙ unfold keeping in refl);
         uses = ap (λ (n : ℕ). usesIn n (lay (flagsAt + length rows) (1 ∷ []) pair)) one-more
             ∙ uses-above (flagsAt + length rows) (1 ∷ []) pair flag-room (suc (rank rows)) place-left (omega arith)
-            ∙ uses-more (rank rows) slot place-left (omega (arith, slot-long, O .holds .room))
-            ∙ ap (λ (us : List ℕ). us ++ (0 ∷ [])) (uses-below (p O .place * (key O + tailBytes)) (bytes (key O + tailBytes) x) state slot-room (rank rows) slot-below
+            ∙ uses-more (rank rows) head place-left (omega (arith, head-long, O .holds .room))
+            ∙ ap (λ (us : List ℕ). us ++ (0 ∷ [])) (uses-above (headAt (p O .place)) (headOf (p O .place) (bytes vectorBytes x)) slot head-room (rank rows) (omega (arith, place-left)) (omega (arith, behind, sizes))
+            ∙ uses-below (p O .place * vectorBytes) (bytes vectorBytes x) state slot-room (rank rows) slot-below
             ∙ O .holds .uses ∙ sym (right O .uses))
             ∙ sym (ap (λ (s : Working). s .uses) keeping-is ∙ unfold keeping in refl) ∙ next O .uses;
         flags = ap (λ (n : ℕ). flagsIn n (lay (flagsAt + length rows) (1 ∷ []) pair)) (longer O)
             ∙ flags-more (length rows) 1 pair (O .more) (omega (arith, pair-long, O .holds .room))
-            ∙ ap (λ (fs : List ℕ). fs ++ (1 ∷ [])) (flags-stay (usesAt + 2 * rank rows) (bytes 2 0) slot pair-room (length rows) pair-below
-            ∙ flags-stay (p O .place * (key O + tailBytes)) (bytes (key O + tailBytes) x) state slot-room (length rows) (omega (arith, slot-below, sizes)) ∙ O .holds .flags)
+            ∙ ap (λ (fs : List ℕ). fs ++ (1 ∷ [])) (flags-stay (usesAt + 2 * rank rows) (bytes 2 0) head pair-room (length rows) pair-below
+            ∙ flags-above (headAt (p O .place)) (headOf (p O .place) (bytes vectorBytes x)) slot head-room (length rows) (O .holds .many) behind
+            ∙ flags-stay (p O .place * vectorBytes) (bytes vectorBytes x) state slot-room (length rows) (omega (arith, slot-below, sizes)) ∙ O .holds .flags)
             ∙ sym (ap (map flagOf) flagged ∙ map-append flagOf (kept rows) (true ∷ []));
       }

@@ -1,20 +1,18 @@
--- What the leaves of the code do to bytes: a digit turned, a digit read, a pair of bytes read and written.
+-- What the leaves of the code do to bytes: a digit turned, a pair of bytes read and written.
 -- Assumes nothing.
 use mathlib.Core.Path.{_≡_, refl, sym, ap, _∙_}
-use mathlib.Core.List.{List, [], _∷_, _++_}
+use mathlib.Core.List.{List, [], _∷_}
 use Prim.Native.Nat.{ℕ, zero, suc, _+_, _-_, _*_, _/_, _%_, _^_, _≤_, _<_}
 use native.Mathlib.Nat.{mod-lt, zero-lt-suc, zero-mul, zero-add, add-zero, mod-eq-of-lt, lt-of-lt-of-le}
 use native.Mathlib.Omega.{arith}
 use lib.Bits.{bitXor, bitOr, xor-block, xor-zero-r, xor-lt, or-shifted}
-use lib.ListN.{length, getD, set, take, drop, replicate, length-set, length-replicate}
-use lib.Seq.{take-all}
+use lib.ListN.{length, getD, set, take, drop, length-set}
 use lib.Pow.{pow-pos, pow-add, pow-lt, pow-mono, shl-lt}
 use Rattle.space.specs.Space.{_⊕_}
 use Rattle.space.specs.Lists.{Below}
-use Rattle.octets.specs.Octets.{number, bytes, over, lay}
-use Rattle.octets.proofs.Numbers.{number-lt, bytes-number, number-append}
+use Rattle.octets.specs.Octets.{number, bytes, lay}
+use Rattle.octets.proofs.Numbers.{number-lt, bytes-number}
 use Rattle.octets.proofs.Digits.{one-shl}
-use Rattle.basis.proofs.Digits.{bit, bit-byte}
 
 -- ---- one byte changed
 
@@ -55,11 +53,6 @@ byteOf v j = length v - 1 - j / 8
 module _ (v : List ℕ) (j : ℕ) (h : j < 8 * length v) (b : Below 256 v) where
   where-is : 8 * (length v - suc (byteOf v j)) ≡ 8 * (j / 8)
   where-is = omega arith
-
-  pub digit-read : bit (j % 8) (getD v (byteOf v j) 0) ≡ bit j (number v)
-  digit-read =
-      let e : 8 * (length v - suc (byteOf v j)) + j % 8 ≡ j = omega arith in
-      sym (rw e at (bit-byte v (byteOf v j) (j % 8) b (omega arith) (omega arith)))
 
   pub digit-turned : set v (byteOf v j) (bitXor (getD v (byteOf v j) 0) (1 * 2 ^ (j % 8) % 256)) ≡ bytes (length v) (number v ⊕ 2 ^ j)
   digit-turned =

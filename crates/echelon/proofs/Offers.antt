@@ -15,11 +15,11 @@ use Rattle.rows.specs.Rows.{rowBytes}
 use Rattle.reading.specs.Reading.{keptRows, rank, uses}
 use Rattle.reading.proofs.Pick.{length-uses}
 use Rattle.basis.specs.Algorithm2.{Pass, pass, Working, step, algorithm2}
-use Rattle.echelon.specs.State.{mostKept, passIn, taken, absorption}
+use Rattle.echelon.specs.State.{tailDigits, passIn, taken, absorption}
 use Rattle.echelon.specs.Holds.{Holds}
 use Rattle.basis.proofs.Model.{Right, step-right, algorithm2-right, algorithm2-snoc, rank-most, rank-room, step-test}
 use Rattle.basis.proofs.Elimination.{rows-lt}
-use Rattle.echelon.proofs.Places.{sizes}
+use Rattle.echelon.proofs.Places.{sizes, tail-size}
 use Rattle.echelon.proofs.Absorbing.{Takes, takes-when, absorbed-so}
 
 pub record Offer (l : ℕ) (rows : List ℕ) (row : ℕ) (state : List ℕ) : Type 0 where
@@ -32,7 +32,7 @@ module _ {l : ℕ} {rows : List ℕ} {row : ℕ} {state : List ℕ} (O : Offer l
   key = rowBytes l
 
   abbrev pub before : Working
-  before = algorithm2 mostKept (8 * key) rows
+  before = algorithm2 (tailDigits key) (8 * key) rows
 
   abbrev pub p : Pass
   p = passIn key row state
@@ -40,18 +40,22 @@ module _ {l : ℕ} {rows : List ℕ} {row : ℕ} {state : List ℕ} (O : Offer l
   pub narrow : key ≤ 40
   narrow = omega (arith, O .holds .most)
 
-  pub right : Right mostKept (8 * key) rows before
-  right = algorithm2-right mostKept (8 * key) (omega (arith, sizes, O .holds .most)) rows (O .holds .below)
+  -- the tail has a digit for each that the row has
+  pub wide : 8 * key ≤ tailDigits key
+  wide = omega (arith, sizes, narrow, tail-size key narrow)
+
+  pub right : Right (tailDigits key) (8 * key) rows before
+  right = algorithm2-right (tailDigits key) (8 * key) wide rows (O .holds .below)
 
   pub all-below : Below (2 ^ (8 * key)) (rows ++ (row ∷ []))
   all-below = below-append (2 ^ (8 * key)) rows (row ∷ []) (O .holds .below) (O .small, tt)
 
-  pub next : Right mostKept (8 * key) (rows ++ (row ∷ [])) (step mostKept row before)
-  next = step-right mostKept (8 * key) (omega (arith, sizes, O .holds .most)) rows row all-below before right
+  pub next : Right (tailDigits key) (8 * key) (rows ++ (row ∷ [])) (step (tailDigits key) row before)
+  next = step-right (tailDigits key) (8 * key) wide rows row all-below before right
 
   -- the pass in bytes is the algorithm's
-  pub pass-is : pass mostKept (before .slots) (row * 2 ^ mostKept) ≡ p
-  pass-is = unfold passIn in ap (λ (ss : List ℕ). pass mostKept ss (row * 2 ^ mostKept)) (sym (O .holds .slots))
+  pub pass-is : pass (tailDigits key) (before .slots) (row * 2 ^ tailDigits key) ≡ p
+  pass-is = unfold passIn in ap (λ (ss : List ℕ). pass (tailDigits key) ss (row * 2 ^ tailDigits key)) (sym (O .holds .slots))
 
   pub ranked : length (before .uses) ≡ rank rows
   ranked = ap length (right .uses) ∙ length-uses rows
@@ -71,23 +75,23 @@ module _ {l : ℕ} {rows : List ℕ} {row : ℕ} {state : List ℕ} (O : Offer l
   pub longer : length (rows ++ (row ∷ [])) ≡ suc (length rows)
   longer = length-append rows (row ∷ []) ∙ add-one (length rows)
 
-  pub slots-next : algorithm2 mostKept (8 * key) (rows ++ (row ∷ [])) .slots ≡ step mostKept row before .slots
-  slots-next = ap (λ (s : Working). s .slots) (algorithm2-snoc mostKept (8 * key) rows row)
+  pub slots-next : algorithm2 (tailDigits key) (8 * key) (rows ++ (row ∷ [])) .slots ≡ step (tailDigits key) row before .slots
+  slots-next = ap (λ (s : Working). s .slots) (algorithm2-snoc (tailDigits key) (8 * key) rows row)
 
   pub test : ltb (p .place) (8 * key) ≡ not (spans (keptRows rows) row)
   test =
       ap₂ (λ (q : Pass) (n : ℕ). ltb (q .place) n) (sym pass-is) (sym (right .size))
-      ∙ step-test mostKept (8 * key) (omega (arith, sizes, O .holds .most)) rows row all-below before right
+      ∙ step-test (tailDigits key) (8 * key) wide rows row all-below before right
 
   -- where it stops, what is left has no more digits than a row and a tail
-  pub vector-lt : p .place < 8 * key → p .vector < 2 ^ (mostKept + 8 * key)
+  pub vector-lt : p .place < 8 * key → p .vector < 2 ^ (tailDigits key + 8 * key)
   vector-lt h =
       let size : length (before .slots) ≡ 8 * key = right .size in
-      let stop : pass mostKept (before .slots) (row * 2 ^ mostKept) .place < length (before .slots) = omega (arith, ap (λ (q : Pass). q .place) pass-is, size, h) in
-      let kept-room : length (keptRows rows) ≤ mostKept = omega (arith, sizes, O .holds .most, rank-room (8 * key) rows (O .holds .below)) in
+      let stop : pass (tailDigits key) (before .slots) (row * 2 ^ tailDigits key) .place < length (before .slots) = omega (arith, ap (λ (q : Pass). q .place) pass-is, size, h) in
+      let kept-room : length (keptRows rows) ≤ tailDigits key = omega (arith, wide, rank-room (8 * key) rows (O .holds .below)) in
       omega (
         arith,
-        rows-lt mostKept (keptRows rows) (before .slots) kept-room (right .slots) row (rw size (O .small)) stop,
+        rows-lt (tailDigits key) (keptRows rows) (before .slots) kept-room (right .slots) row (rw size (O .small)) stop,
         ap (λ (q : Pass). q .vector) pass-is,
-        ap (λ (n : ℕ). 2 ^ (mostKept + n)) size,
+        ap (λ (n : ℕ). 2 ^ (tailDigits key + n)) size,
       )

@@ -18,11 +18,11 @@ use Rattle.reading.proofs.OneMore.{kept-snoc}
 use Rattle.reading.specs.Raised.{raised}
 use Rattle.reading.proofs.Pick.{length-uses}
 use Rattle.basis.specs.Algorithm2.{digits, Pass, Working, counting, step}
-use Rattle.echelon.specs.State.{mostKept, usesAt, flagsAt, usesIn, flagsIn, countedState}
+use Rattle.echelon.specs.State.{tailDigits, usesAt, flagsAt, usesIn, flagsIn, countedState}
 use Rattle.echelon.specs.Holds.{Holds, flagOf}
 use Rattle.basis.proofs.Model.{step-other}
 use Rattle.echelon.proofs.Places.{sizes}
-use Rattle.echelon.proofs.Offers.{Offer, key, before, p, narrow, right, all-below, next, pass-is, ranked, fits, longer, slots-next}
+use Rattle.echelon.proofs.Offers.{Offer, key, before, p, narrow, wide, right, all-below, next, pass-is, ranked, fits, longer, slots-next}
 use Rattle.reading.proofs.Ranks.{rank-other}
 use Rattle.echelon.proofs.Written.{slots-stay, uses-above, flags-stay, flags-more, uses-anew}
 
@@ -43,8 +43,8 @@ module _ {l : ℕ} {rows : List ℕ} {row : ℕ} {state : List ℕ} (O : Offer l
   abbrev us : List ℕ
   us = raised (digits (rank rows) (p O .vector)) (usesIn (rank rows) state)
 
-  counting-is : step mostKept row (before O) ≡ counting (p O) (before O)
-  counting-is = step-other mostKept (8 * key O) (omega (arith, sizes, O .holds .most)) rows row (all-below O) (before O) (right O) e ∙ ap (λ (q : Pass). counting q (before O)) (pass-is O)
+  counting-is : step (tailDigits (key O)) row (before O) ≡ counting (p O) (before O)
+  counting-is = step-other (tailDigits (key O)) (8 * key O) (wide O) rows row (all-below O) (before O) (right O) e ∙ ap (λ (q : Pass). counting q (before O)) (pass-is O)
 
   -- the uses laid are the definition's
   uses-are : us ≡ uses (rows ++ (row ∷ []))

@@ -10,10 +10,10 @@ use lib.ListN.{length, take, drop, set, length-drop}
 use Rattle.space.specs.Lists.{Below}
 use Rattle.octets.specs.Octets.{bytes, numbers, flat, over, lay}
 use Rattle.octets.proofs.Numbers.{length-bytes, number-bytes}
-use Rattle.octets.proofs.Lay.{lay-zero, drop-after}
+use Rattle.octets.proofs.Lay.{lay-zero, drop-after, part-before}
 use Rattle.octets.proofs.Runs.{length-flat, numbers-flat, take-over}
 use Rattle.slots.specs.Reducing.{slotsOf}
-use Rattle.echelon.specs.State.{mostKept, tailBytes, usesAt, flagsAt, stateBytes, slotsIn, usesIn, flagsIn}
+use Rattle.echelon.specs.State.{mostKept, vectorBytes, usesAt, flagsAt, headsAt, stateBytes, slotsIn, usesIn, flagsIn}
 use Rattle.echelon.proofs.Places.{sizes, slots-end}
 use Rattle.octets.proofs.Views.{numbers-take}
 use Rattle.octets.proofs.Laid.{drop-lay, numbers-before, numbers-lay, numbers-more, take-more}
@@ -23,7 +23,7 @@ use Rattle.octets.proofs.Laid.{drop-lay, numbers-before, numbers-lay, numbers-m
 module _ (at : ℕ) (new state : List ℕ) (fits : at + length new ≤ length state) where
   pub slots-stay : (key : ℕ) → key ≤ 40 → usesAt ≤ at → slotsIn key (lay at new state) ≡ slotsIn key state
   unfolding slotsIn slotsOf
-  slots-stay key h l = numbers-before (key + tailBytes) (8 * key) at new state (omega (arith, slots-end key h)) (omega arith)
+  slots-stay key h l = numbers-before vectorBytes (8 * key) at new state (omega (arith, slots-end key h)) (omega arith)
 
   pub uses-below : (r : ℕ) → at + length new ≤ usesAt → usesIn r (lay at new state) ≡ usesIn r state
   unfolding usesIn
@@ -35,6 +35,10 @@ module _ (at : ℕ) (new state : List ℕ) (fits : at + length new ≤ length st
       let e : usesAt + (at - usesAt) ≡ at = omega (arith, sizes) in
       ap (λ (k : ℕ). numbers 2 r (drop usesAt (lay k new state))) (sym e) ∙ ap (numbers 2 r) (drop-lay usesAt (at - usesAt) new state (omega (arith, sizes)))
       ∙ numbers-before 2 r (at - usesAt) new (drop usesAt state) (omega (arith, sizes)) (omega (arith, length-drop usesAt state))
+
+  pub flags-above : (m : ℕ) → m ≤ 512 → headsAt ≤ at → flagsIn m (lay at new state) ≡ flagsIn m state
+  unfolding flagsIn
+  flags-above m h l = part-before flagsAt m at new state (omega (arith, sizes)) fits
 
   pub flags-stay : (m : ℕ) → at + length new ≤ flagsAt → flagsIn m (lay at new state) ≡ flagsIn m state
   unfolding flagsIn
@@ -48,11 +52,11 @@ flags-more m x state h l =
 
 -- one slot more, and one place more for uses
 module _ (key t x r : ℕ) (state : List ℕ) (h : key ≤ 40) (l : t < 8 * key) (whole : stateBytes ≤ length state) where
-  pub slots-more : x < 2 ^ (8 * (key + tailBytes)) → slotsIn key (lay (t * (key + tailBytes)) (bytes (key + tailBytes) x) state) ≡ set (slotsIn key state) t x
+  pub slots-more : x < 2 ^ (8 * vectorBytes) → slotsIn key (lay (t * vectorBytes) (bytes vectorBytes x) state) ≡ set (slotsIn key state) t x
   unfolding slotsIn slotsOf
   slots-more small =
-      numbers-lay (key + tailBytes) (8 * key) t (bytes (key + tailBytes) x) state (length-bytes (key + tailBytes) x) l (omega (arith, sizes, slots-end key h))
-      ∙ ap (set (numbers (key + tailBytes) (8 * key) state) t) (number-bytes (key + tailBytes) x small)
+      numbers-lay vectorBytes (8 * key) t (bytes vectorBytes x) state (length-bytes vectorBytes x) l (omega (arith, sizes, slots-end key h))
+      ∙ ap (set (numbers vectorBytes (8 * key) state) t) (number-bytes vectorBytes x small)
 
 pub uses-more : (r : ℕ) (state : List ℕ) → r < mostKept → stateBytes ≤ length state → usesIn (suc r) (lay (usesAt + 2 * r) (bytes 2 0) state) ≡ usesIn r state ++ (0 ∷ [])
 unfolding usesIn

@@ -8,7 +8,7 @@ use Rattle.space.specs.Lists.{Below}
 use Rattle.rows.specs.Rows.{rowBytes}
 use Rattle.reading.specs.Reading.{kept, rank, uses}
 use Rattle.basis.specs.Algorithm2.{algorithm2}
-use Rattle.echelon.specs.State.{mostKept, stateBytes, slotsIn, usesIn, flagsIn}
+use Rattle.echelon.specs.State.{tailDigits, stateBytes, slotsIn, usesIn, flagsIn}
 
 -- The flag of an arrival.
 abbrev pub flagOf : Bool → ℕ
@@ -21,6 +21,6 @@ pub record Holds (l : ℕ) (rows state : List ℕ) : Type 0 where
   pub room : stateBytes ≤ length state
   pub many : length rows ≤ 512
   pub below : Below (2 ^ (8 * rowBytes l)) rows
-  pub slots : slotsIn (rowBytes l) state ≡ algorithm2 mostKept (8 * rowBytes l) rows .slots
+  pub slots : slotsIn (rowBytes l) state ≡ algorithm2 (tailDigits (rowBytes l)) (8 * rowBytes l) rows .slots
   pub uses : usesIn (rank rows) state ≡ uses rows
   pub flags : flagsIn (length rows) state ≡ map flagOf (kept rows)

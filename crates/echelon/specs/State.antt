@@ -1,38 +1,47 @@
 -- The state of an elimination in one buffer, and what a row makes of it: `absorb` of the code. From byte 0 on stand the slots, each a row
--- and a tail of 40 bytes; then the uses of each kept place, two bytes each; then a byte for each arrival, 1 if the row was kept.
-use Prim.Native.Nat.{ℕ, _+_, _-_, _*_, _^_, _≤_, _<_}
+-- and its tail in 80 bytes; then the uses of each kept place, two bytes each; then a byte for each arrival, 1 if the row was kept; then the
+-- heads, which repeat eight bytes of each slot and tell nothing that the slots don't.
+use Prim.Native.Nat.{ℕ, _+_, _-_, _*_, _/_, _%_, _^_, _≤_, _<_}
 use mathlib.Core.Bool.{Bool, cond, _&&_}
 use mathlib.Core.List.{List, [], _∷_}
 use lib.Dec.{leb, ltb}
 use lib.ListN.{length, take, drop}
 use Rattle.space.specs.Space.{_⊕_}
 use Rattle.octets.specs.Octets.{bytes, numbers, flat, lay}
+use Rattle.words.specs.Words.{wordAt, littleBytes}
 use Rattle.reading.specs.Raised.{raised}
 use Rattle.echelon.specs.declared.Absorbed.{Absorbed}
 use Rattle.echelon.specs.declared.Absorbed.the-variants.{Kept, Other, Misfit}
 use Rattle.basis.specs.Algorithm2.{digits, Pass, pass}
 use Rattle.slots.specs.Reducing.{slotsOf}
 
--- A row of 40 bytes has 320 digits, so no more rows are kept, and a tail of 40 bytes names them.
+-- A row of 40 bytes has 320 digits, so no more rows are kept.
 unfoldable pub mostKept : ℕ
 mostKept = 320
 
-unfoldable pub tailBytes : ℕ
-tailBytes = 40
+-- A vector is a row and its tail, which has the 40 bytes that name them, and as many more as the row has fewer than 40.
+unfoldable pub vectorBytes : ℕ
+vectorBytes = 80
 
--- Where the uses and the flags begin, and the state ends.
+unfoldable pub tailDigits : ℕ → ℕ
+tailDigits key = 8 * (vectorBytes - key)
+
+-- Where the uses, the flags and the heads begin, and the state ends.
 unfoldable pub usesAt : ℕ
 usesAt = 25600
 
 unfoldable pub flagsAt : ℕ
 flagsAt = 26240
 
+unfoldable pub headsAt : ℕ
+headsAt = 26752
+
 unfoldable pub stateBytes : ℕ
-stateBytes = 26752
+stateBytes = 29312
 
 -- The slots of rows of so many bytes; the uses of the first r kept places; the flags of the first m arrivals.
 unfoldable pub slotsIn : ℕ → List ℕ → List ℕ
-slotsIn key state = slotsOf key (key + tailBytes) state
+slotsIn key state = slotsOf key vectorBytes state
 
 unfoldable pub usesIn : ℕ → List ℕ → List ℕ
 usesIn r state = numbers 2 r (drop usesAt state)
@@ -42,18 +51,24 @@ flagsIn m state = take m (drop flagsAt state)
 
 -- The pass of a row over the slots, its tail empty.
 unfoldable pub passIn : ℕ → ℕ → List ℕ → Pass
-passIn key row state = pass mostKept (slotsIn key state) (row * 2 ^ mostKept)
+passIn key row state = pass (tailDigits key) (slotsIn key state) (row * 2 ^ tailDigits key)
 
--- Kept as arrival m at place r: the vector, with the digit worth 2^r, at slot t; no uses yet; flag 1.
-unfoldable pub keptState : ℕ → ℕ → ℕ → ℕ → ℕ → List ℕ → List ℕ
-keptState w t vector m r state =
-    lay (flagsAt + m) (1 ∷ []) (lay (usesAt + 2 * r) (bytes 2 0) (lay (t * w) (bytes w (vector ⊕ 2 ^ r)) state))
+-- Of the slot at place t: where its head begins, and the head, the eight bytes in which its first digit stands, the last one first.
+unfoldable pub headAt : ℕ → ℕ
+headAt t = headsAt + 512 * (t / 64) + 8 * (63 - t % 64)
 
--- What keeping asks of a vector of w bytes: a slot, an arrival and a kept place within a state of so many bytes.
-pub record KeepRoom (w t m r room : ℕ) : Type 0 where
-  pub wide : tailBytes < w
-  pub narrow : w ≤ 80
-  pub slot : t < 8 * (w - tailBytes)
+unfoldable pub headOf : ℕ → List ℕ → List ℕ
+headOf t slot = littleBytes 8 (wordAt (8 * (t / 64)) slot)
+
+-- Kept as arrival m at place r: the vector, with the digit worth 2^r, at slot t, and its head; no uses yet; flag 1.
+unfoldable pub keptState : ℕ → ℕ → ℕ → ℕ → List ℕ → List ℕ
+keptState t vector m r state =
+    let slot = bytes vectorBytes (vector ⊕ 2 ^ r) in
+    lay (flagsAt + m) (1 ∷ []) (lay (usesAt + 2 * r) (bytes 2 0) (lay (headAt t) (headOf t slot) (lay (t * vectorBytes) slot state)))
+
+-- What keeping asks: a slot, an arrival and a kept place within a state of so many bytes.
+pub record KeepRoom (t m r room : ℕ) : Type 0 where
+  pub slot : t < 320
   pub arrival : m < 512
   pub place : r < mostKept
   pub whole : stateBytes ≤ room
@@ -74,7 +89,7 @@ gives answer state = record { answer = answer; state = state }
 unfoldable pub taken : ℕ → Pass → ℕ → ℕ → List ℕ → Absorption
 taken key p m r state =
     cond (ltb (p .place) (8 * key))
-    (cond (ltb r mostKept) (gives Kept (keptState (key + tailBytes) (p .place) (p .vector) m r state)) (gives Misfit state))
+    (cond (ltb r mostKept) (gives Kept (keptState (p .place) (p .vector) m r state)) (gives Misfit state))
     (gives Other (countedState (p .vector) m r state))
 
 -- "rows of 9 to 40 bytes, at most 512 of them": whether a row, an arrival and a kept place fit a state of so many bytes.

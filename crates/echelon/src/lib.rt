@@ -1,7 +1,6 @@
 // Algorithm 2 over bytes: which rows of a list are kept, and how often each is used.
 ghost use mathlib.Core.Path.{_≡_};
 ghost use mathlib.Core.Bool.{true};
-ghost use mathlib.Core.List.{_++_};
 ghost use Prim.Native.Nat.{_+_, _-_, _*_, _/_, _%_, _^_, _<_, _≤_};
 ghost use lib.ListN.{length, take, drop, replicate};
 ghost use Rattle.space.specs.Space.{_⊕_};
@@ -9,7 +8,8 @@ ghost use Rattle.octets.specs.Octets.{number, bytes, numbers, flat, lay};
 ghost use Rattle.reading.specs.Raised.{raised};
 ghost use Rattle.basis.specs.Algorithm2.{digits};
 ghost use Rattle.echelon.specs.Eliminating.{rankAfter, absorbEach, eliminates, elimination};
-ghost use Rattle.echelon.specs.State.{mostKept, tailBytes, usesAt, stateBytes, KeepRoom, passIn, keptState, countedState, taken, takes, absorption};
+ghost use Rattle.echelon.specs.Tally.{Tallied};
+ghost use Rattle.echelon.specs.State.{mostKept, vectorBytes, stateBytes, headAt, headOf, KeepRoom, passIn, keptState, countedState, taken, takes, absorption};
 use slots::Reduced;
 
 // The place of a kept row among the kept rows, from 0. Only keeping a row relates it to an arrival.
@@ -32,79 +32,84 @@ fn flip(v: &mut [u8], j: usize)
     v[i] = v[i] ^ (1u8 << (j % 8));
 }
 
-// The digit worth 2^j of v.
-fn digit_of(v: &[u8], j: usize) -> u32
-    requires { ⌜ j < 8 * length (now v) ⌝ }
-    ensures { λ r. ⌜ r ≡ number (now (v .entry)) / 2 ^ j % 2 ⌝ }
-{
-    let n = v.len();
-    let i = n - 1 - j / 8;
-    ((v[i] >> (j % 8)) % 2) as u32
-}
-
-// The row, and zeros to the end of work.
-fn load(work: &mut [u8], row: &[u8])
-    requires { ⌜ length (now row) ≤ length (now work) ⌝ }
-    ensures { λ _. ⌜ now (work .exit) ≡ now (row .entry) ++ replicate (length (now (work .entry)) - length (now (row .entry))) 0 ⌝ }
-{
-    octets::clear(work);
-    octets::copy(work, row);
-}
-
-// Adds d to the number at place j, of two bytes.
-fn raise(uses: &mut [u8], j: usize, d: u32)
-    requires { ⌜ (2 * j + 2 ≤ length (now uses)) × (d < 2) ⌝ }
-    ensures { λ _. ⌜ now (uses .exit) ≡ lay (2 * j) (bytes 2 (number (take 2 (drop (2 * j) (now (uses .entry)))) + d)) (now (uses .entry)) ⌝ }
+// One more for the number at place j, of two bytes.
+fn raise(uses: &mut [u8], j: usize)
+    requires { ⌜ 2 * j + 2 ≤ length (now uses) ⌝ }
+    ensures { λ _. ⌜ now (uses .exit) ≡ lay (2 * j) (bytes 2 (number (take 2 (drop (2 * j) (now (uses .entry)))) + 1)) (now (uses .entry)) ⌝ }
 {
     let a = 2 * j;
     let b = a + 1;
-    let x = (((uses[a] as u32) << 8) | (uses[b] as u32)) + d;
+    let x = (((uses[a] as u32) << 8) | (uses[b] as u32)) + 1;
     uses[a] = (x / 256 % 256) as u8;
     uses[b] = (x % 256) as u8;
 }
 
+// One use more for each of the kept places from j on that a bit of names stands for.
+fn tally_word(uses: &mut [u8], j: usize, names: u64)
+    requires { ⌜ names * 2 ^ j < 2 ^ (length (now uses) / 2) ⌝ }
+    ensures { λ _. ⌜ Tallied j names (now (uses .entry)) (now (uses .exit)) ⌝ }
+{
+    let mut rest = names;
+    while 0 < rest {
+        raise(uses, j + words::bottom(rest));
+        rest = words::without_bottom(rest);
+    }
+}
+
 // One use more for each of the first r kept places that the tail names.
 fn tally(uses: &mut [u8], tail: &[u8], r: usize)
-    requires { ⌜ (length (now uses) ≡ 2 * r) × (r ≤ 8 * length (now tail)) ⌝ }
+    requires { ⌜ (length (now uses) ≡ 2 * r) × (length (now tail) ≡ 40) × (r ≤ mostKept) ⌝ }
     ensures { λ _. ⌜ now (uses .exit) ≡ flat 2 (raised (digits r (number (now (tail .entry)))) (numbers 2 r (now (uses .entry)))) ⌝ }
 {
     let mut j: usize = 0;
+    let mut i = tail.len();
     while j < r {
-        raise(uses, j, digit_of(tail, j));
-        j += 1;
+        i -= 8;
+        tally_word(uses, j, words::low(words::word(tail, i), r - j));
+        j += 64;
     }
 }
 
 // The row with an empty tail, reduced by the slots.
-fn attempt(work: &mut [u8], row: &[u8], slots: &[u8]) -> usize
-    requires { ⌜ (length (now work) ≡ length (now row) + tailBytes) × (length (now row) ≤ 40) × (usesAt ≤ length (now slots)) ⌝ }
-    ensures place { λ r. ⌜ r ≡ passIn (length (now (row .entry))) (number (now (row .entry))) (now (slots .entry)) .place ⌝ }
-    ensures left { λ r. ⌜ now (work .exit) ≡ bytes (length (now (row .entry)) + tailBytes) (passIn (length (now (row .entry))) (number (now (row .entry))) (now (slots .entry)) .vector) ⌝ }
+fn attempt(work: &mut [u8], row: &[u8], state: &[u8]) -> usize
+    requires { ⌜ (now work ≡ replicate vectorBytes 0) × (length (now row) ≤ 40) × (stateBytes ≤ length (now state)) ⌝ }
+    ensures place { λ r. ⌜ r ≡ passIn (length (now (row .entry))) (number (now (row .entry))) (now (state .entry)) .place ⌝ }
+    ensures left { λ r. ⌜ now (work .exit) ≡ bytes vectorBytes (passIn (length (now (row .entry))) (number (now (row .entry))) (now (state .entry)) .vector) ⌝ }
 {
     let key = row.len();
-    load(work, row);
-    match slots::reduce(work, slots, key) {
+    octets::copy(work, row);
+    match slots::reduce(work, state, &state[26752..29312], key) {
         Reduced::Stopped(t) => t,
         Reduced::Spent => 8 * key,
         Reduced::Misfit => 8 * key,
     }
 }
 
+// Repeats the eight bytes of a vector in which place t stands, where reducing looks for them.
+fn put_head(state: &mut [u8], vector: &[u8], t: usize)
+    requires { ⌜ (t < 320) × (stateBytes ≤ length (now state)) ⌝ }
+    ensures { λ _. ⌜ now (state .exit) ≡ lay (headAt t) (headOf t (now (vector .entry))) (now (state .entry)) ⌝ }
+{
+    let h = 26752 + 512 * (t / 64) + 8 * (63 - t % 64);
+    let e = h + 8;
+    words::put_little(&mut state[h..e], words::word(vector, 8 * (t / 64)));
+}
+
 // Keeps the vector at slot t. This is where an arrival gets a kept place.
 fn keep(state: &mut [u8], work: &mut [u8], t: usize, arrival: rows::Arrival, place: KeptPlace)
-    requires { ⌜ KeepRoom (length (now work)) t (arrival .0) (place .0) (length (now state)) ⌝ }
-    ensures { λ _. ⌜ now (state .exit) ≡ keptState (length (now (work .entry))) t (number (now (work .entry))) (arrival .0) (place .0) (now (state .entry)) ⌝ }
+    requires { ⌜ KeepRoom t (arrival .0) (place .0) (length (now state)) × (length (now work) ≡ vectorBytes) ⌝ }
+    ensures { λ _. ⌜ now (state .exit) ≡ keptState t (number (now (work .entry))) (arrival .0) (place .0) (now (state .entry)) ⌝ }
 {
     let m = arrival.0;
     let r = place.0;
-    let w = work.len();
-    let at = t * w;
-    let e = at + w;
+    let at = t * 80;
+    let e = at + 80;
     let a = 25600 + 2 * r;
     let b = a + 1;
     let f = 26240 + m;
     flip(work, r);
     octets::copy(&mut state[at..e], work);
+    put_head(state, work, t);
     state[a] = 0;
     state[b] = 0;
     state[f] = 1;
@@ -112,7 +117,7 @@ fn keep(state: &mut [u8], work: &mut [u8], t: usize, arrival: rows::Arrival, pla
 
 // Counts a use of each kept place before this one that the tail names, and notes the arrival as not kept.
 fn count(state: &mut [u8], tail: &[u8], arrival: rows::Arrival, place: KeptPlace)
-    requires { ⌜ (length (now tail) ≡ tailBytes) × (arrival .0 < 512) × (place .0 ≤ mostKept) × (stateBytes ≤ length (now state)) ⌝ }
+    requires { ⌜ (length (now tail) ≡ 40) × (arrival .0 < 512) × (place .0 ≤ mostKept) × (stateBytes ≤ length (now state)) ⌝ }
     ensures { λ _. ⌜ now (state .exit) ≡ countedState (number (now (tail .entry))) (arrival .0) (place .0) (now (state .entry)) ⌝ }
 {
     let m = arrival.0;
@@ -131,16 +136,15 @@ fn take_in(
     arrival: rows::Arrival,
     place: KeptPlace,
 ) -> Absorbed
-    requires { ⌜ (length (now work) ≡ length (now row) + tailBytes) × (takes (length (now row)) (arrival .0) (place .0) (length (now state)) ≡ true) ⌝ }
+    requires { ⌜ (now work ≡ replicate vectorBytes 0) × (takes (length (now row)) (arrival .0) (place .0) (length (now state)) ≡ true) ⌝ }
     ensures answer { λ a. ⌜ a ≡ taken (length (now (row .entry))) (passIn (length (now (row .entry))) (number (now (row .entry))) (now (state .entry))) (arrival .0) (place .0) (now (state .entry)) .answer ⌝ }
     ensures state { λ a. ⌜ now (state .exit) ≡ taken (length (now (row .entry))) (passIn (length (now (row .entry))) (number (now (row .entry))) (now (state .entry))) (arrival .0) (place .0) (now (state .entry)) .state ⌝ }
 {
     let key = row.len();
-    let w = work.len();
     let r = place.0;
     let t = attempt(work, row, state);
     if 8 * key <= t {
-        count(state, &work[key..w], arrival, place);
+        count(state, &work[40..80], arrival, place);
         return Absorbed::Other;
     }
     if r < 320 {
@@ -167,7 +171,7 @@ fn taking(key: usize, m: usize, r: usize, room: usize) -> bool
     if 320 < r {
         return false;
     }
-    26752 <= room
+    29312 <= room
 }
 
 // One row more: keeps it at the place given, or counts the uses that it makes of the rows kept before.
@@ -177,9 +181,8 @@ pub fn absorb(state: &mut [u8], row: &[u8], arrival: rows::Arrival, place: KeptP
 {
     let key = row.len();
     if taking(key, arrival.0, place.0, state.len()) {
-        let w = key + 40;
         let mut work = [0u8; 80];
-        take_in(state, &mut work[0..w], row, arrival, place)
+        take_in(state, &mut work, row, arrival, place)
     } else {
         Absorbed::Misfit
     }
@@ -231,7 +234,7 @@ fn eliminating(l: u8, m: usize, room: usize) -> bool
     if 512 < m {
         return false;
     }
-    26752 <= room
+    29312 <= room
 }
 
 // Eliminates the whole rows of a list, in list order, in a state made empty first, and gives their rank.
@@ -242,7 +245,7 @@ pub fn eliminate(state: &mut [u8], list: &[u8], l: u8) -> usize
     let key = 8 + (l as usize);
     let m = list.len() / key;
     if eliminating(l, m, state.len()) {
-        octets::clear(&mut state[0..26752]);
+        octets::clear(&mut state[0..29312]);
         absorb_each(state, list, key)
     } else {
         0

@@ -2,11 +2,11 @@
 -- Assumes nothing.
 use mathlib.Core.Path.{_≡_, refl, sym, ap, ap₂, _∙_}
 use Prim.Native.Nat.{ℕ, zero, suc, _+_, _*_, _/_, _%_, _^_, _<_}
-use native.Mathlib.Nat.{mod-lt, add-mul, mul-assoc, mod-eq-of-lt}
+use native.Mathlib.Nat.{mod-lt, add-mul, mul-assoc, mod-eq-of-lt, le-mul-of-pos-right}
 use native.Mathlib.Omega.{arith}
 use mathlib.Core.List.{List, [], _∷_, _++_}
 use lib.Bits.{xor-block, xor-shr, xor-mod}
-use lib.Pow.{pow-add, high, low, mod-pow-add, field, mod-mod-pow}
+use lib.Pow.{pow-pos, pow-add, high, low, mod-pow-add, field, mod-mod-pow}
 use lib.Arith.{digits-lt}
 use lib.ListN.{length, length-append}
 use lib.Dec.{lit<}
@@ -108,3 +108,17 @@ bytes-number (x ∷ a) b = ap₂ (λ y t. y ∷ t) first (rest ∙ bytes-number 
     rest =
         sym (bytes-mod (length a) 0 whole) ∙ ap (λ (e : ℕ). bytes (length a) (whole % 2 ^ (8 * e))) (omega arith)
         ∙ ap (bytes (length a)) (low x (8 * length a) (number-lt a (b .1)))
+
+-- ---- no byte is set
+
+pub number-zero : (a : List ℕ) → Below 1 a → number a ≡ 0
+unfolding number
+number-zero [] b = refl
+number-zero (x ∷ a) b =
+    let none : x ≡ 0 = omega (arith, b .0) in
+    rw none (omega (arith, number-zero a (b .1)))
+
+pub zero-number : (a : List ℕ) → number a ≡ 0 → Below 1 a
+unfolding number
+zero-number [] e = tt
+zero-number (x ∷ a) e = (omega (arith, le-mul-of-pos-right x (pow-pos (8 * length a))), zero-number a (omega arith))

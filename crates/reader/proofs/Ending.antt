@@ -1,7 +1,7 @@
 -- From what the reader's steps leave to the outcome of the definition.
 -- Assumes nothing.
 use mathlib.Core.Path.{_≡_, refl, sym, ap, ap₂, _∙_}
-use Prim.Native.Nat.{ℕ, _+_, _*_, _≤_}
+use Prim.Native.Nat.{ℕ, _*_, _≤_}
 use native.Mathlib.Omega.{arith}
 use mathlib.Core.Bool.{Bool, true, false, cond}
 use mathlib.Core.List.{List, [], _++_}
@@ -72,13 +72,13 @@ module _ (n l : ℕ) (list : List ℕ) (lent : Lent) (P : checks n l list lent �
       record { some = r .l-low; most = r .l-high; whole = whole n l list lent p; many = rows-most n l list lent p }
 
   module _ (r : ℕ) (choice : Choice) (uses₁ roles₁ : List ℕ) (S : SiftedBy n (rowsOf l list) r choice (lent .uses) uses₁ (lent .roles) roles₁) where
-    pub solvable : picks choice → (slots : List ℕ) → 64 * (8 + l) ≤ length slots → length roles₁ ≡ length (lent .roles) → Solvable n l list roles₁ slots (lent .page)
+    pub solvable : picks choice → (slots : List ℕ) → slotBytes ≤ length slots → length roles₁ ≡ length (lent .roles) → Solvable n l list roles₁ slots (lent .page)
     solvable k slots wide same = go choice refl k
       where
         fit : fits n l list roles₁ slots (lent .page) ≡ true
-        fit = unfold fits slotBytes in
+        fit = unfold fits in
             rw (p .shaped) (rw (p .listed) (rw (le-leb (rowCount l list) (length roles₁) (omega (arith, room .roles, same)))
-            (rw (le-leb (64 * (8 + l)) (length slots) wide) (rw (le-leb (n * l) (length (lent .page)) (room .page))))))
+            (rw (le-leb slotBytes (length slots) wide) (rw (le-leb (n * l) (length (lent .page)) (room .page))))))
 
         go : (c : Choice) → choice ≡ c → picks c → Solvable n l list roles₁ slots (lent .page)
         go Few e none = absurd none

@@ -121,11 +121,10 @@ fn read_rows(
     ensures { λ a. ⌜ gives a (buffers (now (page .exit)) (now (uses .exit)) (now (roles .exit)) (now (scratch .exit)))
         ≡ read n l (rowsOf l (now (list .entry))) (buffers (now (page .entry)) (now (uses .entry)) (now (roles .entry)) (now (scratch .entry))) ⌝ }
 {
-    let sifted = sift(n, l, list, uses, roles, &mut scratch[..26752]);
+    let sifted = sift(n, l, list, uses, roles, &mut scratch[..29312]);
     let rank = sifted.rank;
     let choice = sifted.choice;
-    let end = 64 * (8 + l as usize);
-    let answer = conclude(choice, rank, n, l, list, roles, &mut scratch[..end], page);
+    let answer = conclude(choice, rank, n, l, list, roles, &mut scratch[..5632], page);
     octets::clear(&mut scratch[..32768]);
     answer
 }

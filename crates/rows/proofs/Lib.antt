@@ -6,4 +6,6 @@ pub mod Shape
 pub mod Bits
 pub mod Making
 pub mod Written
+mod Quads
+mod Shorts
 pub mod Settled

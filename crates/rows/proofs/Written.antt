@@ -3,21 +3,20 @@
 use mathlib.Core.Path.{_≡_, sym, ap, ap₂, _∙_}
 use mathlib.Core.Bool.{true}
 use mathlib.Core.List.{List, _++_}
-use Prim.Native.Nat.{ℕ, _+_, _-_, _*_, _/_, _%_, _^_, _≤_, _<_}
-use native.Mathlib.Nat.{mod-eq-of-lt}
+use Prim.Native.Nat.{ℕ, _+_, _-_, _*_, _%_, _^_, _≤_, _<_}
 use native.Mathlib.Omega.{arith}
 use lib.Dec.{eqb}
-use lib.ListN.{length, take, drop, length-append}
-use lib.Seq.{length-take-le}
+use lib.ListN.{length, drop, length-append}
 use borrow.Author.Tests.{le-leb}
 use Rattle.space.specs.Lists.{Below}
 use Rattle.octets.specs.Octets.{number, bytes}
-use Rattle.octets.proofs.Numbers.{length-bytes, number-lt, number-bytes, bytes-mod}
+use Rattle.octets.proofs.Numbers.{length-bytes, number-bytes, bytes-mod}
 use Rattle.octets.proofs.Digits.{bytes-append, number-front, number-back}
-use Rattle.octets.proofs.Runs.{below-parts}
+use Rattle.words.specs.Words.{wordAt}
+use Rattle.words.proofs.Words.{word-inside}
 use Rattle.rows.specs.Rows.{symbols, rowBytes, constraint, payload, named, agrees, made}
 use Rattle.rows.specs.Make.{rowOf, cut, bytesAgree}
-use Rattle.rows.proofs.Sums.{row-lt, named-lt}
+use Rattle.rows.proofs.Sums.{row-lt}
 use Rattle.rows.proofs.Pages.{symbols-small, cut-symbols, made-constraint, made-payload, made-agrees}
 
 -- ---- the row that is written
@@ -54,17 +53,12 @@ module _ (n l : ℕ) (page : List ℕ) (b : Below 256 page) (c : ℕ) where
 
 -- ---- agreement in bytes
 
--- by the row's two parts: its last bytes are the sum that its first 8 name
-pub agrees-parts : (l : ℕ) (page row work : List ℕ) (c : ℕ) → Below 256 page → Below 256 row → length row ≡ rowBytes l → c ≡ number (take 8 row) % 2 ^ 64
-    → work ≡ bytes l (named (cut l page) c) → eqb (number (drop 8 row)) (number work) ≡ agrees l (cut l page) (number row)
+-- by the row's two parts: its last bytes are the sum that its first eight name
+pub agrees-parts : (l : ℕ) (page row : List ℕ) → Below 256 row → length row ≡ rowBytes l
+    → eqb (number (drop 8 row)) (named (cut l page) (wordAt 0 row)) ≡ agrees l (cut l page) (number row)
 unfolding agrees constraint payload
-agrees-parts l page row work c bp br e ec ew =
-    rw (number-back 8 l row br e, number-front 8 l row br e) (ap (eqb (number (drop 8 row)))
-    (ap number ew ∙ number-bytes l (named (cut l page) c) (named-lt (8 * l) (cut l page) (symbols-small (length page / l) l page bp) c)
-    ∙ ap (named (cut l page)) (ec ∙ mod-eq-of-lt few)))
-  where
-    few : number (take 8 row) < 2 ^ 64
-    few = rw (length-take-le 8 row (omega arith)) at (number-lt (take 8 row) (below-parts 256 8 row br .0))
+agrees-parts l page row b e =
+    rw (number-back 8 l row b e, number-front 8 l row b e) (ap (λ (c : ℕ). eqb (number (drop 8 row)) (named (cut l page) c)) (sym (word-inside 0 row (omega arith))))
 
 pub bytesAgree-row : (l : ℕ) (page row : List ℕ) → length row ≡ rowBytes l → 1 ≤ l → l ≤ 32 → bytesAgree page row ≡ agrees l (cut l page) (number row)
 unfolding bytesAgree

@@ -1,3 +1,4 @@
 pub mod Rows
 pub mod Make
 pub mod Shift
+pub mod Quads

@@ -1,11 +1,12 @@
 // Rows and pages: what crosses between two phones.
 ghost use mathlib.Core.Path.{_≡_};
-ghost use Prim.Native.Nat.{suc, _+_, _/_, _%_, _^_, _≤_, _<_};
+ghost use Prim.Native.Nat.{_/_, _^_, _≤_, _<_};
 ghost use lib.Dec.{eqb};
 ghost use lib.ListN.{length};
 ghost use Rattle.octets.specs.Octets.{number, bytes, xorBytes};
-ghost use Rattle.rows.specs.Rows.{shape, named, agrees};
+ghost use Rattle.rows.specs.Rows.{shape, named};
 ghost use Rattle.rows.specs.Make.{makeAnswer, makeRoom, stray, cut, bytesAgree};
+ghost use Rattle.rows.specs.Quads.{quadOf, quadPlus, quadNone};
 
 // The place of a row in a list, from 0. A kept place is another type, so that one can't be taken for the other.
 pub struct Arrival(pub usize);
@@ -45,21 +46,6 @@ pub fn strays(n: u8, constraint: u64) -> bool
     (1u64 << n) <= constraint
 }
 
-// The lowest bits of x, n of them.
-fn low(x: u64, n: usize) -> u64
-    ensures { λ r. ⌜ r ≡ x % 2 ^ n ⌝ }
-{
-    if n < 64 { x % (1u64 << n) } else { x }
-}
-
-// The place of the highest set bit.
-fn top(x: u64) -> usize
-    requires { ⌜ 0 < x ⌝ }
-    ensures { λ r. ⌜ (2 ^ r ≤ x) × (x < 2 ^ suc r) ⌝ }
-{
-    63 - (u64::leading_zeros(x) as usize)
-}
-
 // Adds to into each symbol of page that a bit of names stands for; a symbol is as long as into.
 fn add_named(into: &mut [u8], page: &[u8], names: u64)
     requires { ⌜ (0 < length (now into)) × (names < 2 ^ (length (now page) / length (now into))) ⌝ }
@@ -68,11 +54,10 @@ fn add_named(into: &mut [u8], page: &[u8], names: u64)
     let l = into.len();
     let mut rest = names;
     while 0 < rest {
-        let k = top(rest);
-        let start = k * l;
+        let start = words::bottom(rest) * l;
         let end = start + l;
         octets::add(into, &page[start..end]);
-        rest = rest - (1u64 << k);
+        rest = words::without_bottom(rest);
     }
 }
 
@@ -86,7 +71,7 @@ pub fn sum(into: &mut [u8], page: &[u8], constraint: u64)
         return;
     }
     let n = page.len() / l;
-    add_named(into, page, low(constraint, n));
+    add_named(into, page, words::low(constraint, n));
 }
 
 // The answer of making, by the lengths of the page and the room.
@@ -123,27 +108,87 @@ pub fn make(n: u8, l: u8, constraint: u64, page: &[u8], room: &mut [u8]) -> Made
     Made::Row
 }
 
-fn same(a: &[u8], b: &[u8]) -> bool
-    requires { ⌜ length (now a) ≡ length (now b) ⌝ }
-    ensures { λ r. ⌜ r ≡ eqb (number (now (a .entry))) (number (now (b .entry))) ⌝ }
-{
-    let mut i: usize = 0;
-    while i < a.len() {
-        if a[i] != b[i] {
-            return false;
-        }
-        i += 1;
-    }
-    true
+// ---- agreement, eight bytes at a time
+
+// Four words that cover 8 to 32 bytes, so that a sum of symbols stays in registers. Where there are fewer than 32, the words overlap.
+struct Quad {
+    a: u64,
+    b: u64,
+    c: u64,
+    d: u64,
 }
 
-// Whether a row agrees with a page; work is as long as the payload.
-fn agrees_in(work: &mut [u8], page: &[u8], row: &[u8]) -> bool
-    requires { ⌜ length (now row) ≡ 8 + length (now work) ⌝ }
-    ensures { λ r. ⌜ r ≡ agrees (length (now (work .entry))) (cut (length (now (work .entry))) (now (page .entry))) (number (now (row .entry))) ⌝ }
+impl Quad {
+    fn of(from: &[u8]) -> Self
+        requires { ⌜ 8 ≤ length (now from) ⌝ }
+        ensures { λ r. ⌜ r ≡ quadOf (now (from .entry)) ⌝ }
+    {
+        let last = from.len() - 8;
+        Quad {
+            a: words::little(from, 0),
+            b: words::little(from, octets::least(8, last)),
+            c: words::little(from, octets::least(16, last)),
+            d: words::little(from, octets::least(24, last)),
+        }
+    }
+
+    fn plus(self, other: Quad) -> Self
+        ensures { λ r. ⌜ r ≡ quadPlus self other ⌝ }
+    {
+        Quad {
+            a: self.a ^ other.a,
+            b: self.b ^ other.b,
+            c: self.c ^ other.c,
+            d: self.d ^ other.d,
+        }
+    }
+
+    fn none(self) -> bool
+        ensures { λ r. ⌜ r ≡ quadNone self ⌝ }
+    {
+        if self.a != 0 {
+            return false;
+        }
+        if self.b != 0 {
+            return false;
+        }
+        if self.c != 0 {
+            return false;
+        }
+        self.d == 0
+    }
+}
+
+// Whether a payload of 8 to 32 bytes is the sum of the symbols of page that a bit of names stands for: added to it, they leave nothing.
+fn is_long_sum(page: &[u8], payload: &[u8], names: u64) -> bool
+    requires { ⌜ (8 ≤ length (now payload)) × (length (now payload) ≤ 32) × (names < 2 ^ (length (now page) / length (now payload))) ⌝ }
+    ensures { λ r. ⌜ r ≡ eqb (number (now (payload .entry))) (named (cut (length (now (payload .entry))) (now (page .entry))) names) ⌝ }
 {
-    sum(work, page, octets::get(&row[..8]));
-    same(&row[8..], work)
+    let l = payload.len();
+    let mut left = Quad::of(payload);
+    let mut rest = names;
+    while 0 < rest {
+        let start = words::bottom(rest) * l;
+        let end = start + l;
+        left = left.plus(Quad::of(&page[start..end]));
+        rest = words::without_bottom(rest);
+    }
+    left.none()
+}
+
+// The same for 1 to 7 bytes. They are the highest of a word; those behind them belong to the symbols that follow, and the shift cuts them off.
+fn is_short_sum(page: &[u8], payload: &[u8], names: u64) -> bool
+    requires { ⌜ (0 < length (now payload)) × (length (now payload) < 8) × (names < 2 ^ (length (now page) / length (now payload))) ⌝ }
+    ensures { λ r. ⌜ r ≡ eqb (number (now (payload .entry))) (named (cut (length (now (payload .entry))) (now (page .entry))) names) ⌝ }
+{
+    let l = payload.len();
+    let mut left = words::word(payload, 0);
+    let mut rest = names;
+    while 0 < rest {
+        left = left ^ words::word(page, words::bottom(rest) * l);
+        rest = words::without_bottom(rest);
+    }
+    left >> (8 * (8 - l)) == 0
 }
 
 // Whether a row agrees with a page, whose symbols are as long as the row's payload.
@@ -157,7 +202,9 @@ pub fn agrees(page: &[u8], row: &[u8]) -> bool
     if 40 < size {
         return false;
     }
-    let l = size - 8;
-    let mut work = [0u8; 32];
-    agrees_in(&mut work[..l], page, row)
+    let names = words::low(words::word(row, 0), page.len() / (size - 8));
+    if 16 <= size {
+        return is_long_sum(page, &row[8..], names);
+    }
+    is_short_sum(page, &row[8..], names)
 }

@@ -1,8 +1,8 @@
 -- What fits a pass over slots in bytes, and the answer of `reduce` either way.
 -- Assumes nothing.
 use mathlib.Core.Path.{_≡_, sym}
-use Prim.Native.Nat.{ℕ, _*_, _≤_, _<_}
-use native.Mathlib.Nat.{le-trans, mul-le-mul-right, mul-le-mul-left}
+use Prim.Native.Nat.{ℕ, _+_, _*_, _^_, _≤_, _<_}
+use native.Mathlib.Nat.{le-trans, suc-mul, mul-le-mul-right, mul-le-mul-left}
 use native.Mathlib.Omega.{arith}
 use mathlib.Core.Bool.{true, false, _&&_}
 use mathlib.Core.List.{List}
@@ -48,6 +48,10 @@ pub product-lt : (key w : ℕ) → key ≤ w → w ≤ 4096 → 8 * key * w ≤ 
 product-lt key w h l =
     let a : 8 * key ≤ 32768 = omega arith in
     le-trans (mul-le-mul-right w a) (mul-le-mul-left 32768 l)
+
+-- nor is the end of a slot
+pub slot-end : (key w room u : ℕ) → Fits key w room → u < 8 * key → u * w + w < 2 ^ 64
+slot-end key w room u F h = omega (arith, mul-le-mul-right w h, suc-mul u w, product-lt key w (F .inside) (F .small))
 
 module _ (key : ℕ) (slots work : List ℕ) where
   pub misfit : fits key (length work) (length slots) ≡ false → (Misfit ≡ reduceAnswer key slots work) × (work ≡ reduceWork key slots work)

@@ -1,14 +1,13 @@
--- A turn of `sweep`, at a place whose digit is set: it stops there if the slot of that place has no such digit, and else adds the slot and
+-- A turn of `group`, at a place whose digit is set: it stops there if the slot of that place has no such digit, and else adds the slot and
 -- goes on behind it.
 -- Assumes nothing.
 use mathlib.Core.Path.{_≡_, sym, ap, _∙_}
-use Prim.Native.Nat.{ℕ, suc, _+_, _-_, _*_, _/_, _%_, _≤_, _<_}
+use Prim.Native.Nat.{ℕ, suc, _+_, _-_, _*_, _≤_, _<_}
 use native.Mathlib.Numerals.{add-one}
 use native.Mathlib.Omega.{arith}
 use mathlib.Core.Bool.{true, false}
 use mathlib.Core.List.{List}
 use lib.ListN.{length, getD, take, drop}
-use lib.Seq.{getD-take, getD-drop}
 use Rattle.space.specs.Space.{_⊕_}
 use Rattle.space.specs.Lists.{Below}
 use Rattle.octets.specs.Octets.{number, addFront}
@@ -20,7 +19,6 @@ use Rattle.slots.proofs.Fits.{Fits}
 use Rattle.basis.proofs.Turns.{turn-stop, turn-add}
 use Rattle.octets.proofs.Views.{part-room, length-part}
 use Rattle.slots.proofs.Passing.{Passing, ss, from, worth}
-use Rattle.slots.proofs.Nexts.{place-digit}
 
 pub record Found (key w : ℕ) (slots : List ℕ) (p : Pass) (work : List ℕ) (u : ℕ) : Type 0 where
   pub fit : Fits key w (length slots)
@@ -30,7 +28,7 @@ pub record Found (key w : ℕ) (slots : List ℕ) (p : Pass) (work : List ℕ) (
   pub found : digit (8 * w - suc u) (number work) ≡ true
 
 module _ (key w : ℕ) (slots : List ℕ) (p : Pass) (work : List ℕ) (u : ℕ) (F : Found key w slots p work u) where
-  abbrev slot : List ℕ
+  abbrev pub slot : List ℕ
   slot = take w (drop (u * w) slots)
 
   pub slot-room : u * w + w ≤ length slots
@@ -39,33 +37,29 @@ module _ (key w : ℕ) (slots : List ℕ) (p : Pass) (work : List ℕ) (u : ℕ)
   u-inside : u < length (ss key w slots)
   u-inside = omega (arith, F .inside, length-numbers w (8 * key) slots)
 
-  length-slot : length slot ≡ w
+  pub length-slot : length slot ≡ w
   length-slot = length-part w (u * w) slots slot-room
 
-  slot-below : Below 256 slot
+  pub slot-below : Below 256 slot
   slot-below = below-parts 256 w (drop (u * w) slots) (below-parts 256 (u * w) slots (F .bytes) .1) .0
 
   slot-is : getD (ss key w slots) u 0 ≡ number slot
   slot-is = getD-numbers w (8 * key) slots u (F .inside)
 
   -- the digit that the place stands for, of the slot and of work
-  slot-digit : digit (8 * (w - key) + (length (ss key w slots) - suc u)) (getD (ss key w slots) u 0) ≡ digit (7 - u % 8) (getD slots (u * w + u / 8) 0)
-  slot-digit =
-      let h : u / 8 < w = omega (arith, F .inside, F .fit .inside) in
-      rw (worth key w slots (F .fit .inside) u (F .inside)) (ap (digit (8 * w - suc u)) slot-is
-      ∙ (rw length-slot at (place-digit slot u slot-below (omega (arith, length-slot))))
-      ∙ ap (digit (7 - u % 8)) (getD-take w (drop (u * w) slots) (u / 8) 0 h ∙ getD-drop (u * w) slots (u / 8) 0))
+  slot-digit : digit (8 * (w - key) + (length (ss key w slots) - suc u)) (getD (ss key w slots) u 0) ≡ digit (8 * w - suc u) (number slot)
+  slot-digit = rw (worth key w slots (F .fit .inside) u (F .inside)) (ap (digit (8 * w - suc u)) slot-is)
 
   work-digit : digit (8 * (w - key) + (length (ss key w slots) - suc u)) (number work) ≡ true
   work-digit = rw (worth key w slots (F .fit .inside) u (F .inside)) (F .found)
 
-  pub found-stop : digit (7 - u % 8) (getD slots (u * w + u / 8) 0) ≡ false → (p .vector ≡ number work) × (p .place ≡ u)
+  pub found-stop : digit (8 * w - suc u) (number slot) ≡ false → (p .vector ≡ number work) × (p .place ≡ u)
   found-stop e =
       let s : from key w slots u (number work) ≡ record { vector = number work; place = 0 } =
       turn-stop (8 * (w - key)) (ss key w slots) u u-inside (number work) work-digit (slot-digit ∙ e) in
       (sym (F .passing .vector) ∙ ap (λ (q : Pass). q .vector) s, omega (arith, F .passing .place, ap (λ (q : Pass). q .place) s))
 
-  pub found-add : digit (7 - u % 8) (getD slots (u * w + u / 8) 0) ≡ true → Passing key w slots p (addFront work slot) (u + 1)
+  pub found-add : digit (8 * w - suc u) (number slot) ≡ true → Passing key w slots p (addFront work slot) (u + 1)
   unfolding later
   found-add e =
       let same : length work ≡ length slot = F .passing .long ∙ sym length-slot in

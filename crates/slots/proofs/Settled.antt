@@ -6,4 +6,4 @@ use Rattle.slots.proofs.reduce.Kinds as reduce
 use Rattle.slots.proofs.reduce.Reads as reduce-contract
 
 pub reduce-settled : Settles reduce.ps reduce.r reduce-contract.Post
-reduce-settled κs args = unique (λ o is. ap₂ (λ r v. (r, (v, (tt, (tt, tt))))) (is .0) (is .1))
+reduce-settled κs args = unique (λ o is. ap₂ (λ r v. (r, (v, (tt, (tt, (tt, tt)))))) (is .0) (is .1))

@@ -1,26 +1,22 @@
 -- A pass over slots in bytes: `reduce` of the code. A vector is a key of some bytes and then its tail; there is a slot, as wide as the
 -- vector, for each digit of a key.
-use Prim.Native.Nat.{ℕ, suc, _-_, _*_, _≤_, _<_}
+use Prim.Native.Nat.{ℕ, _+_, _-_, _*_, _≤_, _<_}
 use mathlib.Core.Path.{_≡_}
-use mathlib.Core.Bool.{Bool, true, false, cond, _&&_}
+use mathlib.Core.Bool.{Bool, cond, _&&_}
 use mathlib.Core.List.{List}
 use lib.Dec.{leb, ltb}
-use lib.ListN.{length}
+use lib.ListN.{length, drop}
 use Rattle.octets.specs.Octets.{number, bytes, numbers}
+use Rattle.vectors.specs.Vectors.{bytesOf}
+use Rattle.slots.specs.declared.Walk.{Walk}
+use Rattle.slots.specs.declared.Walk.the-variants.{Ended, Astray}
 use Rattle.slots.specs.declared.Reduced.{Reduced}
 use Rattle.slots.specs.declared.Reduced.the-variants.{Stopped, Spent, Misfit}
-use Rattle.basis.specs.Algorithm2.{digit, Pass, pass}
+use Rattle.basis.specs.Algorithm2.{Pass, pass}
 
 -- Whether the key lies within a vector of w bytes, the vector is no longer than 4,096 bytes, and there is room for a slot for each digit.
 unfoldable pub fits : ℕ → ℕ → ℕ → Bool
 fits key w room = leb key w && (leb w 4096 && leb (8 * key * w) room)
-
--- The first place, at or behind t, of a key's set digit; past the last where there is none.
-pub record Next (work : List ℕ) (key t place : ℕ) : Type 0 where
-  pub behind : t ≤ place
-  pub within : place ≤ 8 * key
-  pub none : (i : ℕ) → t ≤ i → i < place → digit (8 * length work - suc i) (number work) ≡ false
-  pub found : place < 8 * key → digit (8 * length work - suc place) (number work) ≡ true
 
 -- The slots' numbers.
 unfoldable pub slotsOf : ℕ → ℕ → List ℕ → List ℕ
@@ -29,6 +25,25 @@ slotsOf key w slots = numbers w (8 * key) slots
 -- The pass of a vector over them.
 unfoldable pub passOf : ℕ → List ℕ → List ℕ → Pass
 passOf key slots work = pass (8 * (length work - key)) (slotsOf key (length work) slots) (number work)
+
+-- The rest of a pass, from place u on.
+unfoldable pub restFrom : ℕ → List ℕ → List ℕ → ℕ → Pass
+restFrom key slots work u = pass (8 * (length work - key)) (drop u (slotsOf key (length work) slots)) (number work)
+
+-- The vector before and after the pass over the 64 places from byte g of the key on, and where that ended: either where the whole pass stops,
+-- or behind these places, from where the rest of the pass ends as the pass from byte g on does.
+pub record Grouped (key : ℕ) (slots before after : List ℕ) (g place : ℕ) : Type 0 where
+  pub within : place ≤ 8 * key
+  pub stopped : place < 8 * g + 64
+      → (restFrom key slots before (8 * g) .vector ≡ number after) × (8 * g + restFrom key slots before (8 * g) .place ≡ place)
+  pub passed : 8 * g + 64 ≤ place
+      → (place ≡ 8 * g + 64) × (restFrom key slots after place .vector ≡ restFrom key slots before (8 * g) .vector)
+      × (place + restFrom key slots after place .place ≡ 8 * g + restFrom key slots before (8 * g) .place)
+
+-- What a walk came to: where it ended, the vector and the place are those of the pass over the 64 places; astray, it tells nothing.
+unfoldable pub Walked : ℕ → List ℕ → List ℕ → ℕ → Walk → Type 0
+Walked key slots before g (Ended v place) = Grouped key slots before (bytesOf v) g place
+Walked key slots before g Astray = Unit {0}
 
 -- Where a pass over n slots stopped.
 unfoldable pub stopOf : ℕ → Pass → Reduced

@@ -1,12 +1,15 @@
 // Reduces a vector of bytes by slots, one for each digit of its key: the one step of elimination and of solving.
 ghost use mathlib.Core.Path.{_≡_};
 ghost use mathlib.Core.Bool.{true};
-ghost use Prim.Native.Nat.{_-_, _*_, _/_, _%_, _^_, _<_, _≤_};
-ghost use lib.Count.{leadingZeros};
+ghost use Prim.Native.Nat.{_%_, _^_, _<_};
+ghost use lib.Bits.{bitXor};
 ghost use lib.ListN.{length};
 ghost use Rattle.octets.specs.Octets.{bytes};
+ghost use Rattle.words.specs.Words.{wordAt};
+ghost use Rattle.vectors.specs.Vectors.{bytesOf};
 ghost use Rattle.basis.specs.Algorithm2.{digit};
-ghost use Rattle.slots.specs.Reducing.{fits, Next, passOf, reduceAnswer, reduceWork};
+ghost use Rattle.slots.specs.Reducing.{fits, Grouped, Walked, passOf, reduceAnswer, reduceWork};
+use vectors::Vector;
 
 // Where a pass over slots ended: at an empty slot, by that place; or past them all.
 pub enum Reduced {
@@ -15,60 +18,141 @@ pub enum Reduced {
     Misfit,
 }
 
-// The first place of a set digit of b at or behind a place, where the highest digit is at place 0; 8 if there is none.
-fn first(b: u8, from: usize) -> usize
-    requires { ⌜ from < 8 ⌝ }
-    ensures { λ r. ⌜ r ≡ leadingZeros 8 (b % (256 / 2 ^ from)) ⌝ }
-{
-    let rest = (b as u32) % (256u32 >> from);
-    u8::leading_zeros(rest as u8) as usize
+// What a walk over the slots of 64 places came to: the vector and the place where it ended; or it met a head that is not its slot's.
+enum Walk {
+    Ended(Vector, usize),
+    Astray,
 }
 
-// Whether the digit of b at a place is set.
-fn has(b: u8, place: usize) -> bool
-    requires { ⌜ place < 8 ⌝ }
-    ensures { λ r. ⌜ r ≡ digit (7 - place) b ⌝ }
+// Whether the digit of x worth 2^b is set.
+fn has(x: u64, b: usize) -> bool
+    requires { ⌜ b < 64 ⌝ }
+    ensures { λ r. ⌜ r ≡ digit b x ⌝ }
 {
-    (b >> (7 - place)) % 2 == 1
+    (x >> b) % 2 == 1
 }
 
-// The place of the first set digit of a key at or behind t, or 8 * key.
-fn next(work: &[u8], key: usize, t: usize) -> usize
-    requires { ⌜ (t ≤ 8 * key) × (key ≤ length (now work)) × (length (now work) ≤ 4096) ⌝ }
-    ensures { λ r. ⌜ Next (now (work .entry)) key t r ⌝ }
+// The digits of x that are left behind the one worth 2^b, once y is added.
+fn behind(x: u64, y: u64, b: usize) -> u64
+    requires { ⌜ b < 64 ⌝ }
+    ensures { λ r. ⌜ r ≡ bitXor x y % 2 ^ b ⌝ }
 {
+    (x ^ y) % (1u64 << b)
+}
+
+// ---- 64 places
+
+// The pass over the slots of the 64 places from byte g of the key on, and where it stopped: behind the last of these places if it went by
+// all. The word x has the digits that are left, so that no byte is read back after a slot is added. The pass goes on behind each slot, so it
+// ends on any slots.
+fn group(work: &mut [u8], slots: &[u8], key: usize, g: usize) -> usize
+    requires { ⌜ (fits key (length (now work)) (length (now slots)) ≡ true) × (g < key) ⌝ }
+    ensures { λ r. ⌜ Grouped key (now (slots .entry)) (now (work .entry)) (now (work .exit)) g r ⌝ }
+{
+    let w = work.len();
     let end = 8 * key;
-    let mut u = t;
-    while u < end {
-        let p = u / 8;
-        let z = first(work[p], u % 8);
-        u = 8 * p + z;
-        if z < 8 {
+    let mut x = words::word(work, g);
+    while 0 < x {
+        let b = words::top(x);
+        let u = 8 * g + 63 - b;
+        if end <= u {
+            return end;
+        }
+        let at = u * w;
+        let e = at + w;
+        let y = words::word(&slots[at..e], g);
+        if !has(y, b) {
             return u;
         }
+        octets::add(work, &slots[at..e]);
+        x = behind(x, y, b);
     }
-    u
+    octets::least(8 * g + 64, end)
 }
 
-// The pass of work over slots that fit it, and the place where it stopped, 8 * key if it went by all. After a slot is added it goes on
-// behind it, so it ends on any slots.
-fn sweep(work: &mut [u8], slots: &[u8], key: usize) -> usize
+// The same for a vector of 80 bytes, held in registers. Which slot is next hangs on the word of the last one alone, and a head tells that
+// word before the slot is found. A head is only told: each is held against its slot.
+fn walk_on(from: Vector, digits: u64, slots: &[u8], heads: &[u8], key: usize, g: usize) -> Walk
+    requires { ⌜ (fits key 80 (length (now slots)) ≡ true) × (g < key) × (length (now heads) ≡ 512) × (digits ≡ wordAt g (bytesOf from)) ⌝ }
+    ensures { λ r. ⌜ Walked key (now (slots .entry)) (bytesOf from) g r ⌝ }
+{
+    let end = 8 * key;
+    let mut v = from;
+    let mut x = digits;
+    while 0 < x {
+        let b = words::top(x);
+        let u = 8 * g + 63 - b;
+        if end <= u {
+            return Walk::Ended(v, end);
+        }
+        let h = 8 * b;
+        let i = h + 8;
+        let y = words::little(&heads[h..i], 0);
+        let at = u * 80;
+        let e = at + 80;
+        if y != words::word(&slots[at..e], g) {
+            return Walk::Astray;
+        }
+        if !has(y, b) {
+            return Walk::Ended(v, u);
+        }
+        v = vectors::plus(v, vectors::load(&slots[at..e]));
+        x = behind(x, y, b);
+    }
+    Walk::Ended(v, octets::least(8 * g + 64, end))
+}
+
+// The pass over the 64 places in registers, unless a head leads astray. Where no digit is set, nothing is loaded.
+fn group_80(work: &mut [u8], slots: &[u8], heads: &[u8], key: usize, g: usize) -> usize
+    requires { ⌜ (fits key (length (now work)) (length (now slots)) ≡ true) × (g < key) × (length (now work) ≡ 80) ⌝ }
+    ensures { λ r. ⌜ Grouped key (now (slots .entry)) (now (work .entry)) (now (work .exit)) g r ⌝ }
+{
+    let x = words::word(work, g);
+    if x == 0 {
+        return octets::least(8 * g + 64, 8 * key);
+    }
+    let h = 64 * g;
+    let i = h + 512;
+    if heads.len() < i {
+        return group(work, slots, key, g);
+    }
+    match walk_on(vectors::load(work), x, slots, &heads[h..i], key, g) {
+        Walk::Ended(v, u) => {
+            vectors::store(work, v);
+            u
+        }
+        Walk::Astray => group(work, slots, key, g),
+    }
+}
+
+// The pass over the 64 places, as the vector's length allows.
+fn group_any(work: &mut [u8], slots: &[u8], heads: &[u8], key: usize, g: usize) -> usize
+    requires { ⌜ (fits key (length (now work)) (length (now slots)) ≡ true) × (g < key) ⌝ }
+    ensures { λ r. ⌜ Grouped key (now (slots .entry)) (now (work .entry)) (now (work .exit)) g r ⌝ }
+{
+    if work.len() == 80 {
+        group_80(work, slots, heads, key, g)
+    } else {
+        group(work, slots, key, g)
+    }
+}
+
+// ---- the whole key
+
+// The pass of work over slots that fit it, and the place where it stopped, 8 * key if it went by all.
+fn sweep(work: &mut [u8], slots: &[u8], heads: &[u8], key: usize) -> usize
     requires { ⌜ fits key (length (now work)) (length (now slots)) ≡ true ⌝ }
     ensures place { λ r. ⌜ r ≡ passOf key (now (slots .entry)) (now (work .entry)) .place ⌝ }
     ensures left { λ r. ⌜ now (work .exit) ≡ bytes (length (now (work .entry))) (passOf key (now (slots .entry)) (now (work .entry)) .vector) ⌝ }
 {
-    let w = work.len();
     let end = 8 * key;
-    let mut u = next(work, key, 0);
-    while u < end {
-        let at = u * w;
-        let e = at + w;
-        let q = at + u / 8;
-        if !has(slots[q], u % 8) {
+    let mut g: usize = 0;
+    while g < key {
+        let u = group_any(work, slots, heads, key, g);
+        if u < 8 * g + 64 {
             return u;
         }
-        octets::add(work, &slots[at..e]);
-        u = next(work, key, u + 1);
+        g += 8;
     }
     end
 }
@@ -86,13 +170,15 @@ fn fitting(key: usize, w: usize, room: usize) -> bool
     8 * key * w <= room
 }
 
-// Takes slots off work until its key has no digit left, or one whose slot is empty.
-pub fn reduce(work: &mut [u8], slots: &[u8], key: usize) -> Reduced
+// Takes slots off work until its key has no digit left, or one whose slot is empty. Heads make that faster for vectors of 80 bytes: for the
+// slot at place t they repeat, at 512 * (t / 64) + 8 * (63 - t % 64), the eight bytes in which place t stands, the last one first. Whatever
+// they hold, the answer is the same.
+pub fn reduce(work: &mut [u8], slots: &[u8], heads: &[u8], key: usize) -> Reduced
     ensures answer { λ r. ⌜ r ≡ reduceAnswer key (now (slots .entry)) (now (work .entry)) ⌝ }
     ensures left { λ r. ⌜ now (work .exit) ≡ reduceWork key (now (slots .entry)) (now (work .entry)) ⌝ }
 {
     if fitting(key, work.len(), slots.len()) {
-        let t = sweep(work, slots, key);
+        let t = sweep(work, slots, heads, key);
         if t < 8 * key {
             Reduced::Stopped(t)
         } else {

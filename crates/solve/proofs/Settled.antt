@@ -9,8 +9,8 @@ use Rattle.solve.specs.Solve.{solveSlots, solvePage}
 use Rattle.solve.proofs.solve.Kinds as solve
 use Rattle.solve.proofs.solve.Reads as solve-contract
 
-slots-by : (r s : Solved) (l : ℕ) (slots now : List ℕ) → r ≡ s → now ≡ solveSlots r l slots → now ≡ solveSlots s l slots
-slots-by r s l slots now e f = f ∙ ap (λ a. solveSlots a l slots) e
+slots-by : (r s : Solved) (slots now : List ℕ) → r ≡ s → now ≡ solveSlots r slots → now ≡ solveSlots s slots
+slots-by r s slots now e f = f ∙ ap (λ a. solveSlots a slots) e
 
 page-by : (r s : Solved) (n l : ℕ) (list roles page now : List ℕ) → r ≡ s → now ≡ solvePage r n l list roles page → now ≡ solvePage s n l list roles page
 page-by r s n l list roles page now e f = f ∙ ap (λ a. solvePage a n l list roles page) e
@@ -19,5 +19,5 @@ pub solve-settled : Settles solve.ps solve.r solve-contract.Post
 solve-settled κs args =
     unique (λ o is i. (
       is .0 i,
-      (tt, (tt, (tt, (tt, (slots-by _ _ _ _ _ (is .0) (is .1 .0) i, (page-by _ _ _ _ _ _ _ _ (is .0) (is .1 .1) i, tt)))))),
+      (tt, (tt, (tt, (tt, (slots-by _ _ _ _ (is .0) (is .1 .0) i, (page-by _ _ _ _ _ _ _ _ (is .0) (is .1 .1) i, tt)))))),
     ))

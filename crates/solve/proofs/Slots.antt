@@ -1,17 +1,43 @@
--- Parts of a run of slots in bytes: a part written as a whole, and the bound of what a pass leaves.
+-- The slots in bytes: how long they are, what `slots::reduce` answers and leaves for a vector of 80 bytes, a part written as a whole, and the
+-- bound of what a pass leaves.
 -- Assumes nothing.
-use mathlib.Core.Path.{_≡_, sym, _∙_}
+use mathlib.Core.Path.{_≡_, refl, sym, _∙_}
 use Prim.Native.Nat.{ℕ, _+_, _^_, _≤_, _<_}
+use native.Mathlib.Omega.{arith}
+use mathlib.Core.Bool.{true}
 use mathlib.Core.List.{List, [], _∷_, _++_}
 use lib.ListN.{length, take, drop}
 use Rattle.space.specs.Lists.{Below}
 use Rattle.space.proofs.Xor.{⊕-lt}
-use Rattle.octets.specs.Octets.{over, lay}
-use Rattle.octets.proofs.Lay.{lay-back}
+use Rattle.octets.specs.Octets.{bytes, over, lay}
+use Rattle.octets.proofs.Lay.{copied, lay-back}
+use Rattle.octets.proofs.Views.{length-part}
 use Rattle.basis.specs.Algorithm2.{later, pass}
 use Rattle.basis.proofs.Passes.{pass-cases}
-use Rattle.octets.proofs.Lay.{copied}
-use Rattle.octets.proofs.Views.{length-part}
+use Rattle.slots.specs.Reducing.{fits, slotsOf, passOf, stopOf, reduceAnswer, reduceWork}
+use Rattle.slots.proofs.Fits.{fits-when}
+use Rattle.solve.specs.Solve.{slotBytes}
+use Rattle.solve.specs.Parts.{wholePass}
+
+pub slot-bytes : slotBytes ≡ 5632
+unfolding slotBytes
+slot-bytes = refl
+
+-- ---- the pass of a vector of 80 bytes
+
+module _ (slots work : List ℕ) (long : length work ≡ 80) (all : length slots ≡ slotBytes) where
+  fit : fits 8 80 (length slots) ≡ true
+  fit = fits-when 8 80 (length slots) (record { inside = omega arith; small = omega arith; big = omega (arith, slot-bytes) })
+
+  pub whole-answer : reduceAnswer 8 slots work ≡ stopOf 64 (wholePass slots work)
+  unfolding reduceAnswer passOf slotsOf
+  whole-answer = rw long (rw fit)
+
+  pub whole-left : reduceWork 8 slots work ≡ bytes 80 (wholePass slots work .vector)
+  unfolding reduceWork passOf slotsOf
+  whole-left = rw long (rw fit)
+
+-- ---- parts, and bounds
 
 -- a part of w bytes, copied over from a buffer as long
 pub part-copied : (w at k : ℕ) (bs from into : List ℕ) → k ≡ w → at + w ≤ length bs → length from ≡ w

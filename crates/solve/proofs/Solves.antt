@@ -1,51 +1,53 @@
 -- Slots that are cleared first, and a page that is written only where all rows went in.
 -- Assumes nothing.
 use mathlib.Core.Path.{_≡_, refl, sym, ap, ap₂, _∙_}
-use Prim.Native.Nat.{ℕ, zero, suc, _-_, _*_}
-use native.Mathlib.Nat.{suc-mul, add-comm}
+use Prim.Native.Nat.{ℕ, zero, suc, _+_, _-_}
+use native.Mathlib.Nat.{div-eq-of-lt}
+use native.Mathlib.Omega.{arith}
 use mathlib.Core.Bool.{Bool, true, false}
-use mathlib.Core.List.{List, _∷_, _++_}
-use lib.ListN.{length, replicate, length-replicate, replicate-append-replicate}
-use lib.Seq.{take-at, drop-at}
-use Rattle.octets.specs.Octets.{number, numbers, flat, over}
-use Rattle.octets.proofs.Loaded.{number-zeros}
-use Rattle.solve.specs.Solve.{chosen, Filled, leaves, empty, pageIn}
-use Rattle.solve.specs.Parts.{slotsIn, rowsIn, Fills, fillFrom, pageAfter}
+use mathlib.Core.List.{List, _∷_, map}
+use lib.ListN.{length, replicate}
+use lib.Pow.{pow-pos}
+use Rattle.octets.specs.Octets.{flat, over}
+use Rattle.octets.proofs.Loaded.{numbers-zeros}
+use Rattle.rows.specs.Rows.{rowCount, rowsOf}
+use Rattle.basis.proofs.Cuts.{cut}
+use Rattle.solve.specs.Solve.{chosen, Filled, leaves, empty, filled, pageIn, slotBytes}
+use Rattle.solve.specs.Parts.{slotsIn, rowsIn, Fills, pageAfter}
+use Rattle.solve.proofs.Entering.{behind}
+use Rattle.solve.proofs.Slots.{slot-bytes}
 
 -- ---- cleared slots are empty
 
-numbers-zeros : (w n : ℕ) → numbers w n (replicate (n * w) 0) ≡ replicate n 0
-unfolding numbers
-numbers-zeros w zero = refl
-numbers-zeros w (suc n) =
-    rw parts (ap₂ (λ x t. x ∷ t) (ap number (take-at (replicate w 0) (replicate (n * w) 0) w (length-replicate w 0)) ∙ number-zeros w)
-    (ap (numbers w n) (drop-at (replicate w 0) (replicate (n * w) 0) w (length-replicate w 0)) ∙ numbers-zeros w n))
-  where
-    parts : replicate {A = ℕ} (suc n * w) 0 ≡ replicate w 0 ++ replicate (n * w) 0
-    parts = ap (λ (j : ℕ). replicate {A = ℕ} j 0) (suc-mul n w ∙ add-comm (n * w) w) ∙ sym (replicate-append-replicate w (n * w) 0)
+cut-none : (s n : ℕ) → map (cut s) (replicate n 0) ≡ replicate n 0
+cut-none s zero = refl
+cut-none s (suc n) = ap₂ (λ (x : ℕ) (t : List ℕ). x ∷ t) (div-eq-of-lt (pow-pos s)) (cut-none s n)
 
-pub slots-cleared : (w : ℕ) (slots after : List ℕ) → length slots ≡ 64 * w → after ≡ replicate (length slots) 0 → slotsIn w after ≡ empty
+pub slots-cleared : (w : ℕ) (slots after : List ℕ) → length slots ≡ slotBytes → after ≡ replicate (length slots) 0 → slotsIn w after ≡ empty
 unfolding empty
-slots-cleared w slots after size e = ap (numbers w 64) (e ∙ ap (λ (j : ℕ). replicate {A = ℕ} j 0) size) ∙ numbers-zeros w 64
+slots-cleared w slots after size e =
+    ap (slotsIn w) (e ∙ ap (λ (j : ℕ). replicate {A = ℕ} j 0) size) ∙ ap (map (cut (behind w))) (numbers-zeros 80 64 slotBytes (omega (arith, slot-bytes))) ∙ cut-none (behind w) 64
 
 -- ---- the page
 
 -- whether all rows went in, and the page afterwards
 abbrev Written : ℕ → ℕ → List ℕ → List ℕ → List ℕ → Bool → List ℕ → Type 0
-Written w n list roles page b page′ = (b ≡ fillFrom w list roles .all) × (page′ ≡ pageAfter (fillFrom w list roles) n (w - 8) page)
+Written n l list roles page b page′ = (b ≡ filled l list roles .all) × (page′ ≡ pageAfter (filled l list roles) n l page)
 
-module _ (w n : ℕ) (slots list roles page : List ℕ) (b : Bool) (after : List ℕ) (none : slotsIn w slots ≡ empty) (F : Fills w slots (chosen roles (rowsIn w list)) b after) where
-  from : leaves (slotsIn w after) b ≡ fillFrom w list roles
-  from = rw none at F
+module _ (n l : ℕ) (slots list roles page : List ℕ) (b : Bool) (after : List ℕ) (none : slotsIn (8 + l) slots ≡ empty)
+    (F : Fills (8 + l) slots (chosen roles (rowsIn (8 + l) list)) b after) where
+  from : leaves (slotsIn (8 + l) after) b ≡ filled l list roles
+  unfolding filled rowsOf rowCount
+  from = let back : 8 + l - 8 ≡ l = omega arith in rw (none, back) at F
 
-  went : b ≡ fillFrom w list roles .all
+  went : b ≡ filled l list roles .all
   went = ap (λ (f : Filled). f .all) from
 
-  pub written-none : b ≡ false → Written w n list roles page false page
-  written-none e = let stays : false ≡ fillFrom w list roles .all = sym e ∙ went in (stays, rw (← stays))
+  pub written-none : b ≡ false → Written n l list roles page false page
+  written-none e = let stays : false ≡ filled l list roles .all = sym e ∙ went in (stays, rw (← stays))
 
-  pub written-all : b ≡ true → (page′ : List ℕ) → page′ ≡ over (flat (w - 8) (pageIn n (w - 8) (slotsIn w after))) page → Written w n list roles page true page′
+  pub written-all : b ≡ true → (page′ : List ℕ) → page′ ≡ over (flat l (pageIn n l (slotsIn (8 + l) after))) page → Written n l list roles page true page′
   written-all e page′ p =
-      let all : true ≡ fillFrom w list roles .all = sym e ∙ went in
-      let left : slotsIn w after ≡ fillFrom w list roles .slots = ap (λ (f : Filled). f .slots) from in
+      let all : true ≡ filled l list roles .all = sym e ∙ went in
+      let left : slotsIn (8 + l) after ≡ filled l list roles .slots = ap (λ (f : Filled). f .slots) from in
       (all, p ∙ rw (← all, left))

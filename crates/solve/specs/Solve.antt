@@ -7,7 +7,7 @@ use lib.Dec.{eqb, leb, ltb}
 use lib.ListN.{length, set, replicate}
 use Rattle.space.specs.Lists.{select, tabulate}
 use Rattle.octets.specs.Octets.{flat, over}
-use Rattle.rows.specs.Rows.{shape, rowBytes, rowCount, rowsOf, payload}
+use Rattle.rows.specs.Rows.{shape, rowCount, rowsOf, payload}
 use Rattle.reading.specs.Outcome.{wholeRows}
 use Rattle.basis.specs.Algorithm2.{pass}
 use Rattle.solve.specs.declared.Solved.{Solved}
@@ -59,14 +59,14 @@ pageIn n l slots = tabulate n (symbolIn l slots)
 
 -- ---- the outcome of solving
 
--- The bytes of the slots.
-unfoldable pub slotBytes : ℕ → ℕ
-slotBytes l = 64 * rowBytes l
+-- The bytes of 64 slots of 80 bytes, and of a head of 8 for each.
+unfoldable pub slotBytes : ℕ
+slotBytes = 5632
 
 -- The shape is in range, the list has whole rows, at most 512, and each buffer is long enough.
 unfoldable pub fits : ℕ → ℕ → List ℕ → List ℕ → List ℕ → List ℕ → Bool
 fits n l list roles slots page =
-    shape n l && (wholeRows l list && (leb (rowCount l list) (length roles) && (leb (slotBytes l) (length slots) && leb (n * l) (length page))))
+    shape n l && (wholeRows l list && (leb (rowCount l list) (length roles) && (leb slotBytes (length slots) && leb (n * l) (length page))))
 
 -- Where it all fits, whether all rows with role 2 went in: "7 singular: picked constraints dependent".
 unfoldable pub solveAnswer : ℕ → ℕ → List ℕ → List ℕ → List ℕ → List ℕ → Solved
@@ -79,7 +79,7 @@ solvePage Singular n l list roles page = page
 solvePage Misfit n l list roles page = page
 
 -- The slots afterwards: cleared, whatever stood there.
-unfoldable pub solveSlots : Solved → ℕ → List ℕ → List ℕ
-solveSlots Page l slots = over (replicate (slotBytes l) 0) slots
-solveSlots Singular l slots = over (replicate (slotBytes l) 0) slots
-solveSlots Misfit l slots = slots
+unfoldable pub solveSlots : Solved → List ℕ → List ℕ
+solveSlots Page slots = over (replicate slotBytes 0) slots
+solveSlots Singular slots = over (replicate slotBytes 0) slots
+solveSlots Misfit slots = slots

@@ -2,12 +2,13 @@
 ghost use mathlib.Core.Path.{_≡_};
 ghost use mathlib.Core.Bool.{true};
 ghost use mathlib.Core.List.{[], _∷_};
-ghost use Prim.Native.Nat.{_+_, _-_, _*_, _/_, _≤_, _<_};
+ghost use Prim.Native.Nat.{_+_, _*_, _/_, _≤_, _<_};
 ghost use lib.ListN.{length, set};
-ghost use Rattle.octets.specs.Octets.{number, bytes, flat, over};
+ghost use Rattle.octets.specs.Octets.{number, bytes, numbers, flat, over};
 ghost use Rattle.reading.specs.Outcome.{wholeRows};
-ghost use Rattle.solve.specs.Solve.{chosen, symbolIn, pageIn, fits, solveAnswer, solvePage, solveSlots};
-ghost use Rattle.solve.specs.Parts.{Ready, slotsIn, rowsIn, Fills, unitOf, Roomy, fillFrom, pageAfter};
+ghost use Rattle.slots.specs.Reducing.{stopOf};
+ghost use Rattle.solve.specs.Solve.{chosen, filled, symbolIn, pageIn, slotBytes, fits, solveAnswer, solvePage, solveSlots};
+ghost use Rattle.solve.specs.Parts.{Ready, wholePass, slotsIn, rowsIn, Fills, unitOf, Roomy, pageAfter};
 
 // What came of solving. Page and Singular are document 01's answers 0 and 7; Misfit is for arguments that do not fit.
 pub enum Solved {
@@ -18,24 +19,35 @@ pub enum Solved {
 
 // ---- rows that go into slots
 
-// Stores a vector in the slot at a place.
+// Stores a vector in the slot at a place, and its first eight bytes where reducing looks for them.
 fn store(slots: &mut [u8], place: usize, vector: &[u8])
-    requires { ⌜ (place < 64) × (length (now slots) ≡ 64 * length (now vector)) ⌝ }
-    ensures { λ _. ⌜ slotsIn (length (now (vector .entry))) (now (slots .exit)) ≡ set (slotsIn (length (now (vector .entry))) (now (slots .entry))) place (number (now (vector .entry))) ⌝ }
+    requires { ⌜ (place < 64) × (length (now slots) ≡ slotBytes) × (length (now vector) ≡ 80) ⌝ }
+    ensures { λ _. ⌜ numbers 80 64 (now (slots .exit)) ≡ set (numbers 80 64 (now (slots .entry))) place (number (now (vector .entry))) ⌝ }
 {
-    let w = vector.len();
-    let at = place * w;
-    let end = at + w;
+    let at = place * 80;
+    let end = at + 80;
+    let h = 5120 + 8 * (63 - place);
+    let i = h + 8;
     octets::copy(&mut slots[at..end], vector);
+    words::put_little(&mut slots[h..i], words::word(vector, 0));
 }
 
-// A row goes into the slot where its pass stops; whether there was one.
+// The pass of a vector of 80 bytes over the slots.
+fn pass(work: &mut [u8], slots: &[u8]) -> slots::Reduced
+    requires { ⌜ (length (now work) ≡ 80) × (length (now slots) ≡ slotBytes) ⌝ }
+    ensures answer { λ r. ⌜ r ≡ stopOf 64 (wholePass (now (slots .entry)) (now (work .entry))) ⌝ }
+    ensures left { λ r. ⌜ now (work .exit) ≡ bytes 80 (wholePass (now (slots .entry)) (now (work .entry)) .vector) ⌝ }
+{
+    slots::reduce(work, slots, &slots[5120..], 8)
+}
+
+// A row goes into the slot where its pass stops; whether there was one. What stands behind the row in work is never read.
 fn enter(slots: &mut [u8], work: &mut [u8], row: &[u8]) -> bool
     requires { ⌜ Ready (length (now row)) (now work) (now slots) ⌝ }
     ensures { λ r. ⌜ Fills (length (now (row .entry))) (now (slots .entry)) (number (now (row .entry)) ∷ []) r (now (slots .exit)) ⌝ }
 {
     octets::copy(work, row);
-    match slots::reduce(work, slots, 8) {
+    match pass(work, slots) {
         slots::Reduced::Stopped(place) => {
             store(slots, place, work);
             true
@@ -57,13 +69,12 @@ fn offer(slots: &mut [u8], work: &mut [u8], row: &[u8], role: u8) -> bool
     }
 }
 
-// The rows of a list whose role is 2 go in, up to the first that does not; whether all did.
-fn enter_all(slots: &mut [u8], work: &mut [u8], list: &[u8], roles: &[u8]) -> bool
-    requires { ⌜ Ready (length (now work)) (now work) (now slots) ⌝ }
-    requires { ⌜ length (now list) / length (now work) ≤ length (now roles) ⌝ }
-    ensures { λ r. ⌜ Fills (length (now (work .entry))) (now (slots .entry)) (chosen (now (roles .entry)) (rowsIn (length (now (work .entry))) (now (list .entry)))) r (now (slots .exit)) ⌝ }
+// The rows of w bytes of a list whose role is 2 go in, up to the first that does not; whether all did.
+fn enter_all(slots: &mut [u8], work: &mut [u8], list: &[u8], roles: &[u8], w: usize) -> bool
+    requires { ⌜ Ready w (now work) (now slots) ⌝ }
+    requires { ⌜ length (now list) / w ≤ length (now roles) ⌝ }
+    ensures { λ r. ⌜ Fills w (now (slots .entry)) (chosen (now (roles .entry)) (rowsIn w (now (list .entry)))) r (now (slots .exit)) ⌝ }
 {
-    let w = work.len();
     let rows = list.len() / w;
     let mut at = 0;
     let mut arrival = 0;
@@ -91,22 +102,20 @@ fn unit(work: &mut [u8], k: usize)
 
 // Writes symbol k over out.
 fn symbol(out: &mut [u8], work: &mut [u8], slots: &[u8], k: usize)
-    requires { ⌜ Ready (length (now work)) (now work) (now slots) ⌝ }
-    requires { ⌜ (length (now out) ≡ length (now work) - 8) × (k < 64) ⌝ }
-    ensures { λ _. ⌜ now (out .exit) ≡ bytes (length (now (work .entry)) - 8) (symbolIn (length (now (work .entry)) - 8) (slotsIn (length (now (work .entry))) (now (slots .entry))) k) ⌝ }
+    requires { ⌜ Ready (8 + length (now out)) (now work) (now slots) × (k < 64) ⌝ }
+    ensures { λ _. ⌜ now (out .exit) ≡ bytes (length (now (out .entry))) (symbolIn (length (now (out .entry))) (slotsIn (8 + length (now (out .entry))) (now (slots .entry))) k) ⌝ }
 {
     unit(work, k);
-    slots::reduce(work, slots, 8);
+    pass(work, slots);
     octets::copy(out, &work[8..]);
 }
 
-// Writes the n symbols over the first bytes of page.
-fn symbols(page: &mut [u8], work: &mut [u8], slots: &[u8], n: usize)
-    requires { ⌜ Ready (length (now work)) (now work) (now slots) ⌝ }
-    requires { ⌜ (n ≤ 64) × (n * (length (now work) - 8) ≤ length (now page)) ⌝ }
-    ensures { λ _. ⌜ now (page .exit) ≡ over (flat (length (now (work .entry)) - 8) (pageIn n (length (now (work .entry)) - 8) (slotsIn (length (now (work .entry))) (now (slots .entry))))) (now (page .entry)) ⌝ }
+// Writes the n symbols of l bytes over the first bytes of page.
+fn symbols(page: &mut [u8], work: &mut [u8], slots: &[u8], n: usize, l: usize)
+    requires { ⌜ Ready (8 + l) (now work) (now slots) ⌝ }
+    requires { ⌜ (n ≤ 64) × (n * l ≤ length (now page)) ⌝ }
+    ensures { λ _. ⌜ now (page .exit) ≡ over (flat l (pageIn n l (slotsIn (8 + l) (now (slots .entry))))) (now (page .entry)) ⌝ }
 {
-    let l = work.len() - 8;
     let mut at = 0;
     let mut k = 0;
     while k < n {
@@ -122,41 +131,24 @@ fn symbols(page: &mut [u8], work: &mut [u8], slots: &[u8], n: usize)
 // The rows go into cleared slots, and only where all did are the symbols written; whether they were.
 fn write_page(
     page: &mut [u8],
-    work: &mut [u8],
     slots: &mut [u8],
     list: &[u8],
     roles: &[u8],
     n: usize,
+    l: usize,
 ) -> bool
-    requires { ⌜ Ready (length (now work)) (now work) (now slots) ⌝ }
-    requires { ⌜ Roomy (length (now work)) n (now list) (now roles) (now page) ⌝ }
-    ensures answer { λ r. ⌜ r ≡ fillFrom (length (now (work .entry))) (now (list .entry)) (now (roles .entry)) .all ⌝ }
-    ensures page { λ _. ⌜ now (page .exit) ≡ pageAfter (fillFrom (length (now (work .entry))) (now (list .entry)) (now (roles .entry))) n (length (now (work .entry)) - 8) (now (page .entry)) ⌝ }
+    requires { ⌜ (l ≤ 32) × (length (now slots) ≡ slotBytes) ⌝ }
+    requires { ⌜ Roomy l n (now list) (now roles) (now page) ⌝ }
+    ensures answer { λ r. ⌜ r ≡ filled l (now (list .entry)) (now (roles .entry)) .all ⌝ }
+    ensures page { λ _. ⌜ now (page .exit) ≡ pageAfter (filled l (now (list .entry)) (now (roles .entry))) n l (now (page .entry)) ⌝ }
 {
+    let mut work = [0u8; 80];
     octets::clear(slots);
-    if !enter_all(slots, work, list, roles) {
+    if !enter_all(slots, &mut work, list, roles, 8 + l) {
         return false;
     }
-    symbols(page, work, slots, n);
+    symbols(page, &mut work, slots, n, l);
     true
-}
-
-// The same with work of its own, for rows of w bytes.
-fn solve_in(
-    page: &mut [u8],
-    slots: &mut [u8],
-    list: &[u8],
-    roles: &[u8],
-    n: usize,
-    w: usize,
-) -> bool
-    requires { ⌜ (8 ≤ w) × (w ≤ 40) × (length (now slots) ≡ 64 * w) ⌝ }
-    requires { ⌜ Roomy w n (now list) (now roles) (now page) ⌝ }
-    ensures answer { λ r. ⌜ r ≡ fillFrom w (now (list .entry)) (now (roles .entry)) .all ⌝ }
-    ensures page { λ _. ⌜ now (page .exit) ≡ pageAfter (fillFrom w (now (list .entry)) (now (roles .entry))) n (w - 8) (now (page .entry)) ⌝ }
-{
-    let mut work = [0u8; 40];
-    write_page(page, &mut work[..w], slots, list, roles, n)
 }
 
 // Whether a list has whole rows, at most 512.
@@ -185,7 +177,7 @@ fn fitting(n: u8, l: u8, list: &[u8], roles: &[u8], slots: &[u8], page: &[u8]) -
     if roles.len() < list.len() / w {
         return false;
     }
-    if slots.len() < 64 * w {
+    if slots.len() < 5632 {
         return false;
     }
     size <= page.len()
@@ -194,15 +186,20 @@ fn fitting(n: u8, l: u8, list: &[u8], roles: &[u8], slots: &[u8], page: &[u8]) -
 // From the rows whose role is 2 to the page: its symbols are written once all these rows went into the slots, which are left cleared.
 pub fn solve(n: u8, l: u8, list: &[u8], roles: &[u8], slots: &mut [u8], page: &mut [u8]) -> Solved
     ensures answer { λ r. ⌜ r ≡ solveAnswer n l (now (list .entry)) (now (roles .entry)) (now (slots .entry)) (now (page .entry)) ⌝ }
-    ensures slots { λ r. ⌜ now (slots .exit) ≡ solveSlots r l (now (slots .entry)) ⌝ }
+    ensures slots { λ r. ⌜ now (slots .exit) ≡ solveSlots r (now (slots .entry)) ⌝ }
     ensures page { λ r. ⌜ now (page .exit) ≡ solvePage r n l (now (list .entry)) (now (roles .entry)) (now (page .entry)) ⌝ }
 {
     if !fitting(n, l, list, roles, slots, page) {
         return Solved::Misfit;
     }
-    let w = 8 + (l as usize);
-    let end = 64 * w;
-    let all = solve_in(page, &mut slots[..end], list, roles, n as usize, w);
-    octets::clear(&mut slots[..end]);
+    let all = write_page(
+        page,
+        &mut slots[..5632],
+        list,
+        roles,
+        n as usize,
+        l as usize,
+    );
+    octets::clear(&mut slots[..5632]);
     if all { Solved::Page } else { Solved::Singular }
 }

@@ -6,7 +6,7 @@ use native.Mathlib.Nat.{zero-lt-suc}
 use native.Mathlib.Omega.{arith}
 use mathlib.Core.Bool.{Bool, true, false, cond}
 use mathlib.Core.List.{List, [], _∷_, _++_, map, List·Memᴰ, List·Memᴰ·head, List·Memᴰ·tail}
-use lib.ListN.{length, getD}
+use lib.ListN.{length, set, getD}
 use Rattle.space.specs.Lists.{select, marked, count, tabulate, All, Below}
 
 -- ---- map
@@ -23,6 +23,11 @@ map-same f e (x ∷ xs) = ap₂ (λ a t. a ∷ t) (e x) (map-same f e xs)
 pub map-append : {A B : Type 0} (f : A → B) (xs ys : List A) → map f (xs ++ ys) ≡ map f xs ++ map f ys
 map-append f [] ys = refl
 map-append f (x ∷ xs) ys = ap (λ t. f x ∷ t) (map-append f xs ys)
+
+pub map-set : {A B : Type 0} (f : A → B) (xs : List A) (i : ℕ) (y : A) → map f (set xs i y) ≡ set (map f xs) i (f y)
+map-set f [] i y = refl
+map-set f (x ∷ xs) zero y = refl
+map-set f (x ∷ xs) (suc i) y = ap (λ t. f x ∷ t) (map-set f xs i y)
 
 -- ---- select
 
@@ -183,6 +188,10 @@ below-map-at m f (y ∷ xs) h x (List·Memᴰ·tail k) = below-map-at m f xs (h 
 pub below-map : (m : ℕ) (f : ℕ → ℕ) → ((x : ℕ) → f x < m) → (xs : List ℕ) → Below m (map f xs)
 below-map m f h [] = tt
 below-map m f h (x ∷ xs) = (h x, below-map m f h xs)
+
+pub below-each : (m : ℕ) (xs : List ℕ) → ((j : ℕ) → j < length xs → getD xs j 0 < m) → Below m xs
+below-each m [] h = tt
+below-each m (x ∷ xs) h = (h 0 (omega arith), below-each m xs (λ j k. h (suc j) (omega arith)))
 
 pub below-more : (k m : ℕ) → k ≤ m → (xs : List ℕ) → Below k xs → Below m xs
 below-more k m h [] b = tt

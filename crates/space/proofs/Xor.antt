@@ -108,3 +108,6 @@ eqb-⊕ x y z = go (eqb x y) refl
     go : (b : Bool) → eqb x y ≡ b → eqb (x ⊕ z) (y ⊕ z) ≡ b
     go true e = eq-eqb (x ⊕ z) (y ⊕ z) (ap (λ (v : ℕ). v ⊕ z) (eqb-true x y e))
     go false e = ne-eqb (x ⊕ z) (y ⊕ z) (λ h. eqb-false x y e (sym (⊕-cancel-r x z) ∙ ap (λ (v : ℕ). v ⊕ z) h ∙ ⊕-cancel-r y z))
+
+pub eqb-⊕-zero : (x y : ℕ) → eqb (x ⊕ y) 0 ≡ eqb x y
+eqb-⊕-zero x y = ap (eqb (x ⊕ y)) (sym (⊕-self y)) ∙ eqb-⊕ x y y

@@ -1,10 +1,13 @@
--- Eight bytes with the first lowest: of a sum, and when they are none.
+-- Bytes with the first lowest: eight of them as a number, of a sum, and when they are none; and the bytes of a number, one by one and back.
 -- Assumes nothing.
-use mathlib.Core.Path.{_≡_, refl, sym, ap, _∙_}
+use mathlib.Core.Path.{_≡_, refl, sym, ap, ap₂, _∙_}
 use mathlib.Core.List.{List, [], _∷_}
-use Prim.Native.Nat.{ℕ, zero, suc, min, _+_, _-_, _*_, _≤_, _<_}
+use Prim.Native.Nat.{ℕ, zero, suc, min, _+_, _-_, _*_, _/_, _%_, _^_, _≤_, _<_}
+use native.Mathlib.Nat.{div-one, mod-lt}
 use native.Mathlib.Omega.{arith}
-use lib.Bits.{bitXor, xor-block}
+use lib.Bits.{bitXor, xor-block, xor-shr, xor-mod}
+use lib.Dec.{lit<}
+use lib.Pow.{shr-shr}
 use lib.ListN.{length, take, drop, getD, length-take, length-drop}
 use lib.Seq.{getD-take, getD-drop}
 use borrow.Author.Tests.{le-leb}
@@ -13,7 +16,7 @@ use Rattle.space.specs.Lists.{Below}
 use Rattle.octets.specs.Octets.{number, xorBytes}
 use Rattle.octets.proofs.Runs.{below-parts}
 use Rattle.octets.proofs.Xors.{length-xorBytes, drop-xorBytes, take-xorBytes}
-use Rattle.words.specs.Words.{littleOf, littleAt}
+use Rattle.words.specs.Words.{littleOf, littleAt, littleBytes}
 
 -- eight bytes from the last to the first stand for the same number
 pub little-turned : (a b c d e f g h : ℕ) → number (h ∷ g ∷ f ∷ e ∷ d ∷ c ∷ b ∷ a ∷ []) ≡ littleOf (a ∷ b ∷ c ∷ d ∷ e ∷ f ∷ g ∷ h ∷ [])
@@ -72,3 +75,36 @@ module _ (i : ℕ) (v : List ℕ) (h : i + 8 ≤ length v) where
       let same : getD (take 8 (drop i v)) (j - i) 0 ≡ getD v j 0 =
       getD-take 8 (drop i v) (j - i) 0 (omega arith) ∙ getD-drop i v (j - i) 0 ∙ ap (λ (n : ℕ). getD v n 0) k in
       rw same at (getD-below 1 (take 8 (drop i v)) (j - i) (omega arith) (none-little (take 8 (drop i v)) (sym (little-inside i v h) ∙ e)))
+
+-- ---- the bytes of a number
+
+pub length-littleBytes : (w x : ℕ) → length (littleBytes w x) ≡ w
+unfolding littleBytes
+length-littleBytes zero x = refl
+length-littleBytes (suc w) x = ap suc (length-littleBytes w (x / 256))
+
+pub littleBytes-below : (w x : ℕ) → Below 256 (littleBytes w x)
+unfolding littleBytes
+littleBytes-below zero x = tt
+littleBytes-below (suc w) x = (mod-lt x (lit< tt), littleBytes-below w (x / 256))
+
+pub getD-littleBytes : (w x i : ℕ) → i < w → getD (littleBytes w x) i 0 ≡ x / 2 ^ (8 * i) % 256
+unfolding littleBytes
+getD-littleBytes zero x i h = absurd (omega arith)
+getD-littleBytes (suc w) x zero h = ap (λ (y : ℕ). y % 256) (sym (div-one x))
+getD-littleBytes (suc w) x (suc i) h =
+    getD-littleBytes w (x / 256) i (omega arith) ∙ ap (λ (y : ℕ). y % 256) (shr-shr x 8 (8 * i) ∙ ap (λ (e : ℕ). x / 2 ^ e) (omega arith))
+
+pub littleBytes-⊕ : (w a b : ℕ) → littleBytes w (a ⊕ b) ≡ xorBytes (littleBytes w a) (littleBytes w b)
+unfolding littleBytes xorBytes _⊕_
+littleBytes-⊕ zero a b = refl
+littleBytes-⊕ (suc w) a b = ap₂ (λ x t. x ∷ t) (xor-mod a b 8) (ap (littleBytes w) (xor-shr a b 8) ∙ littleBytes-⊕ w (a / 256) (b / 256))
+
+-- back to the bytes that the number was read from
+pub littleBytes-littleOf : (bs : List ℕ) → Below 256 bs → littleBytes (length bs) (littleOf bs) ≡ bs
+unfolding littleBytes littleOf
+littleBytes-littleOf [] b = refl
+littleBytes-littleOf (x ∷ bs) b =
+    let low : (littleOf bs * 256 + x) % 256 ≡ x = omega (arith, b .0) in
+    let high : (littleOf bs * 256 + x) / 256 ≡ littleOf bs = omega (arith, b .0) in
+    ap₂ (λ y t. y ∷ t) low (ap (littleBytes (length bs)) high ∙ littleBytes-littleOf bs (b .1))

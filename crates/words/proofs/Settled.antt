@@ -1,4 +1,4 @@
--- Each contract of this crate settles its result.
+-- Each contract of this crate settles the result and every lent byte.
 -- Assumes nothing.
 use mathlib.Core.Path.{ap}
 use Rattle.octets.proofs.Unique.{unique, Settles}
@@ -6,6 +6,8 @@ use Rattle.words.proofs.word.Kinds as word
 use Rattle.words.proofs.word.Reads as word-contract
 use Rattle.words.proofs.little.Kinds as little
 use Rattle.words.proofs.little.Reads as little-contract
+use Rattle.words.proofs.put_little.Kinds as put-little
+use Rattle.words.proofs.put_little.Reads as put-little-contract
 use Rattle.words.proofs.top.Kinds as top
 use Rattle.words.proofs.top.Reads as top-contract
 use Rattle.words.proofs.bottom.Kinds as bottom
@@ -20,6 +22,9 @@ word-settled κs args = unique (λ o is. ap (λ r. (r, (tt, (tt, tt)))) is)
 
 pub little-settled : Settles little.ps little.r little-contract.Post
 little-settled κs args = unique (λ o is. ap (λ r. (r, (tt, (tt, tt)))) is)
+
+pub put-little-settled : Settles put-little.ps put-little.r put-little-contract.Post
+put-little-settled κs args = unique (λ o is. ap (λ v. (tt, (v, (tt, tt)))) is)
 
 pub top-settled : Settles top.ps top.r top-contract.Post
 top-settled κs args = unique (λ o is. ap (λ r. (r, (tt, tt))) is)

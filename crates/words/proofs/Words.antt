@@ -7,7 +7,7 @@ use native.Mathlib.Nat.{mod-eq-of-lt, lt-of-lt-of-le}
 use native.Mathlib.Omega.{arith}
 use lib.Pow.{pow-mono, shl-exact}
 use lib.ListN.{length, take, drop, replicate, length-append, length-drop, length-replicate, replicate-append-replicate}
-use lib.Seq.{length-take-le, take-add, take-at, drop-at, take-append-le, take-append-add, drop-append-le}
+use lib.Seq.{length-take-le, take-add, take-at, take-take, drop-at, take-append-le, take-append-add, drop-append-le}
 use Rattle.space.specs.Space.{_⊕_}
 use Rattle.space.specs.Lists.{Below}
 use Rattle.space.proofs.Lists.{below-append}
@@ -86,23 +86,39 @@ module _ (i : ℕ) (bs : List ℕ) (b : Below 256 bs) (h : i ≤ length bs) wher
       ∙ number-back i 8 (take (i + 8) more) (below-parts 256 (i + 8) more below-more .0) (length-take-le (i + 8) more (omega (arith, length-more)))
       ∙ ap number part)
 
+-- ---- eight bytes, whatever the run
+
+taken : ℕ → List ℕ → List ℕ
+taken i bs = take 8 (drop i bs ++ replicate 8 0)
+
+length-taken : (i : ℕ) (bs : List ℕ) → length (taken i bs) ≡ 8
+unfolding taken
+length-taken i bs = length-take-le 8 (drop i bs ++ replicate 8 0) (omega (arith, length-append (drop i bs) (replicate 8 0)))
+
+below-taken : (i : ℕ) (bs : List ℕ) → Below 256 bs → Below 256 (taken i bs)
+unfolding taken
+below-taken i bs b = below-parts 256 8 (drop i bs ++ replicate 8 0) (below-append 256 (drop i bs) (replicate 8 0) (below-parts 256 i bs b .1) (below-zeros 8)) .0
+
+pub word-lt : (i : ℕ) (bs : List ℕ) → Below 256 bs → wordAt i bs < 2 ^ 64
+unfolding wordAt taken
+word-lt i bs b = rw (length-taken i bs) at (number-lt (taken i bs) (below-taken i bs b))
+
 -- ---- of a sum
 
 pub word-⊕ : (i : ℕ) (a c : List ℕ) → length a ≡ length c → Below 256 a → Below 256 c → wordAt i (xorBytes a c) ≡ wordAt i a ⊕ wordAt i c
-unfolding wordAt
+unfolding wordAt taken
 word-⊕ i a c e p q =
     let s : length (drop i a) ≡ length (drop i c) = length-drop i a ∙ ap (λ (k : ℕ). k - i) e ∙ sym (length-drop i c) in
     ap (λ (t : List ℕ). number (take 8 (t ++ replicate 8 0))) (drop-xorBytes i a c e)
     ∙ ap (λ (t : List ℕ). number (take 8 (xorBytes (drop i a) (drop i c) ++ t))) (sym (xorBytes-self (replicate 8 0)))
     ∙ ap (λ (t : List ℕ). number (take 8 t)) (sym (xorBytes-append (drop i a) (drop i c) (replicate 8 0) (replicate 8 0) s))
     ∙ ap number (take-xorBytes 8 (drop i a ++ replicate 8 0) (drop i c ++ replicate 8 0))
-    ∙ number-⊕ (taken a) (taken c) (length-taken a ∙ sym (length-taken c)) (below-taken a p) (below-taken c q)
-  where
-    taken : List ℕ → List ℕ
-    taken v = take 8 (drop i v ++ replicate 8 0)
+    ∙ number-⊕ (taken i a) (taken i c) (length-taken i a ∙ sym (length-taken i c)) (below-taken i a p) (below-taken i c q)
 
-    length-taken : (v : List ℕ) → length (taken v) ≡ 8
-    length-taken v = length-take-le 8 (drop i v ++ replicate 8 0) (omega (arith, length-append (drop i v) (replicate 8 0)))
+-- ---- its first bytes
 
-    below-taken : (v : List ℕ) → Below 256 v → Below 256 (taken v)
-    below-taken v b = below-parts 256 8 (drop i v ++ replicate 8 0) (below-append 256 (drop i v) (replicate 8 0) (below-parts 256 i v b .1) (below-zeros 8)) .0
+pub word-front : (i l : ℕ) (bs : List ℕ) → Below 256 bs → i + l ≤ length bs → l ≤ 8 → wordAt i bs / 2 ^ (8 * (8 - l)) ≡ number (take l (drop i bs))
+unfolding wordAt taken
+word-front i l bs b h few =
+    number-front l (8 - l) (taken i bs) (below-taken i bs b) (length-taken i bs ∙ omega arith)
+    ∙ ap number (take-take l 8 (drop i bs ++ replicate 8 0) few ∙ take-append-le l (drop i bs) (replicate 8 0) (omega (arith, length-drop i bs)))

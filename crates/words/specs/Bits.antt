@@ -1,6 +1,5 @@
 -- The first and the last set bit of a number of 64 bits.
-use Prim.Native.Nat.{ℕ, suc, _+_, _-_, _*_, _^_}
-use mathlib.Core.Path.{_≡_}
+use Prim.Native.Nat.{ℕ, _-_}
 use lib.Count.{leadingZeros, trailingZeros}
 
 -- The place of the highest set bit; 0 where none is set.

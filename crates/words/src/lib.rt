@@ -3,7 +3,7 @@ ghost use mathlib.Core.Path.{_≡_};
 ghost use Prim.Native.Nat.{_-_, _%_, _^_};
 ghost use lib.ListN.{length};
 ghost use Rattle.octets.specs.Octets.{number};
-ghost use Rattle.words.specs.Words.{wordAt, littleOf, littleAt};
+ghost use Rattle.words.specs.Words.{wordAt, littleOf, littleAt, littleBytes};
 ghost use Rattle.words.specs.Bits.{highest, lowest};
 
 // ---- eight bytes
@@ -73,6 +73,20 @@ pub fn little(from: &[u8], i: usize) -> u64
     }
     let e = i + 8;
     eight_little(&from[i..e])
+}
+
+// Writes a number over the whole of into, the lowest byte first.
+pub fn put_little(into: &mut [u8], x: u64)
+    ensures { λ _. ⌜ now (into .exit) ≡ littleBytes (length (now (into .entry))) x ⌝ }
+{
+    let n = into.len();
+    let mut rest = x;
+    let mut i: usize = 0;
+    while i < n {
+        into[i] = (rest % 256) as u8;
+        rest = rest / 256;
+        i += 1;
+    }
 }
 
 // ---- the set bits of a word

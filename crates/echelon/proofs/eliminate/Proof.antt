@@ -54,10 +54,10 @@ same-length c = search needs
 abbrev Start : (c : tie.After-clear) → Type 0
 Start c =
     let S = c .before .before .before .before .before .before .args .state .now in
-    take 0 S ++ (c .clear .last .0 ++ drop 26752 (drop 0 S)) ≡ emptied S
+    take 0 S ++ (c .clear .last .0 ++ drop 29312 (drop 0 S)) ≡ emptied S
 
 start : (c : tie.After-clear) → Start c
-start c = emptied-is 26752 (c .before .before .before .before .before .before .args .state .now) (c .clear .last .0) (sym (sizes .4)) (fit (c .before .before) .whole) (c .clear .ensures)
+start c = emptied-is 29312 (c .before .before .before .before .before .before .args .state .now) (c .clear .last .0) (sym (sizes .5)) (fit (c .before .before) .whole) (c .clear .ensures)
 
 returns : tie.Need-returns
 unfolding rowCount rowsOf

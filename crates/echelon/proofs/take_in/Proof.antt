@@ -2,12 +2,12 @@
 -- Assumes nothing.
 use native.Mathlib.Omega.{arith}
 use borrow.Author.Needs.{needs}
-use mathlib.Core.Path.{_≡_, sym, ap, ap₂, _∙_}
-use Prim.Native.Nat.{ℕ, _+_}
-use lib.ListN.{length, length-take, length-drop}
+use mathlib.Core.Path.{_≡_, sym, ap, _∙_}
+use Prim.Native.Nat.{ℕ}
+use lib.ListN.{length, length-take, length-drop, length-replicate}
 use Rattle.octets.specs.Octets.{number}
 use Rattle.basis.specs.Algorithm2.{Pass}
-use Rattle.echelon.specs.State.{mostKept, tailBytes, Absorption, keptState, passIn}
+use Rattle.echelon.specs.State.{mostKept, vectorBytes, Absorption, keptState, passIn}
 use Rattle.echelon.proofs.Places.{sizes}
 use Rattle.echelon.proofs.Absorbing.{Takes, takes-so, taken-other, taken-kept, taken-full}
 use Rattle.echelon.proofs.Vectors.{tail-digits, counted-same, kept-same}
@@ -23,7 +23,11 @@ fit c = takes-so (length (c .args .row .now)) (c .args .arrival .0) (c .args .pl
 attempt-requires : tie.Need-attempt-requires
 attempt-requires c κs =
     let S = c .before .before .before .before .before in
-    (S .pre .0, fit S .high, omega (arith, sizes, fit S .whole))
+    (S .pre .0, fit S .high, fit S .whole)
+
+-- the vector has 80 bytes all the time
+long : (c : tie.After-attempt) → length (c .attempt .last .0) ≡ vectorBytes
+long c = c .attempt .kept .0 ∙ ap length (c .before .before .before .before .before .before .pre .0) ∙ length-replicate {A = ℕ} vectorBytes 0
 
 mul-if1 : tie.Need-mul-if1
 mul-if1 c = omega (arith, fit (c .before .before .before .before .before .before .before .before) .high)
@@ -35,12 +39,12 @@ part-count-start : tie.Need-part-count-start
 part-count-start c = search needs
 
 part-count-end : tie.Need-part-count-end
-part-count-end c = search needs
+part-count-end c = omega (arith, sizes, long (c .before .before .before .before .before))
 
 count-requires : tie.Need-count-requires
 count-requires c κs =
     let S = c .before .before .before .before .before .before .before .before .before .before .before .before in
-    (simp (length-take, length-drop) (omega (arith, c .before .before .before .before .before .before .attempt .kept .0, S .pre .0)), fit S .arrival, fit S .place, fit S .whole)
+    (simp (length-take, length-drop) (omega (arith, sizes, long (c .before .before .before .before .before .before))), fit S .arrival, fit S .place, fit S .whole)
 
 same-length : tie.Need-same-length
 same-length c = search needs
@@ -58,23 +62,22 @@ returns c =
       sym (ap (λ (o : Absorption). o .answer) e),
       c .before .before .count .ensures
           ∙ counted-same _ (p .vector) (A .arrival .0) (A .place .0) (A .state .now)
-          (tail-digits (length (A .row .now)) (length (A .work .now)) (p .vector) (A .place .0) (a .last .0) (S .pre .0) (a .ensures .1) (fit S .place))
+          (tail-digits (p .vector) (A .place .0) (a .last .0) (a .ensures .1) (fit S .place))
           ∙ sym (ap (λ (o : Absorption). o .state) e),
     )
 
 keep-requires : tie.Need-keep-requires
 unfolding mostKept
 keep-requires c κs =
-    let S = c .before .before .before .before .before .before .before .before .before .before .before .before in
-    let n : length (c .before .before .before .before .before .before .attempt .last .0) ≡ length (S .args .row .now) + tailBytes = c .before .before .before .before .before .before .attempt .kept .0 ∙ S .pre .0 in
-    record {
-      wide = omega (arith, n, fit S .low);
-      narrow = omega (arith, n, sizes, fit S .high);
-      slot = omega (arith, n, c .before .before .before .if1 .left);
-      arrival = fit S .arrival;
-      place = c .before .before .if2 .taken;
-      whole = fit S .whole;
-    }
+    let S = c .before .before .before .before .before .before .before .before .before .before .before .before in (
+      record {
+        slot = omega (arith, fit S .high, c .before .before .before .if1 .left);
+        arrival = fit S .arrival;
+        place = c .before .before .if2 .taken;
+        whole = fit S .whole;
+      },
+      long (c .before .before .before .before .before .before),
+    )
 
 same-length-3 : tie.Need-same-length-3
 same-length-3 c = search needs
@@ -89,12 +92,11 @@ returns-2 c =
     let A = S .args in
     let a = c .before .before .before .before .before .before .before .before .before .before .before .attempt in
     let p : Pass = passIn (length (A .row .now)) (number (A .row .now)) (A .state .now) in
-    let n : length (a .last .0) ≡ length (A .row .now) + tailBytes = a .kept .0 ∙ S .pre .0 in
     let e = taken-kept (length (A .row .now)) p (A .arrival .0) (A .place .0) (A .state .now) (rw (a .ensures .0) at (c .before .before .before .before .before .before .before .before .if1 .left)) (c .before .before .before .before .before .before .before .if2 .taken) in (
       sym (ap (λ (o : Absorption). o .answer) e),
       c .before .before .before .before .keep .ensures
-          ∙ ap₂ (λ (w t : ℕ). keptState w t (number (a .last .0)) (A .arrival .0) (A .place .0) (A .state .now)) n (a .ensures .0)
-          ∙ kept-same (length (A .row .now) + tailBytes) (p .place) (p .vector) (A .arrival .0) (A .place .0) (a .last .0) (A .state .now) (a .ensures .1)
+          ∙ ap (λ (t : ℕ). keptState t (number (a .last .0)) (A .arrival .0) (A .place .0) (A .state .now)) (a .ensures .0)
+          ∙ kept-same (p .place) (p .vector) (A .arrival .0) (A .place .0) (a .last .0) (A .state .now) (a .ensures .1)
           ∙ sym (ap (λ (o : Absorption). o .state) e),
     )
 

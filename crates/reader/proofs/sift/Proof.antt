@@ -21,7 +21,7 @@ choose-rows-requires c κs = search needs
 few : (c : tie.After-choose-rows) → c .choose-rows .result .rank ≤ 320
 few c = omega (arith, c .choose-rows .ensures .ranked, rank-fits _ _ _ (c .choose-rows .ensures .holds))
 
-room : (c : tie.After-choose-rows) → 26752 ≤ length (c .choose-rows .last .1 .1 .1 .0)
+room : (c : tie.After-choose-rows) → 29312 ≤ length (c .choose-rows .last .1 .1 .1 .0)
 unfolding stateBytes
 room c = c .choose-rows .ensures .holds .room
 

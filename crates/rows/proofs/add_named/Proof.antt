@@ -1,42 +1,48 @@
--- `rows::add_named` meets its contract: each turn takes the highest set bit away and adds its symbol, and what stands there with what
--- the bits that are left name is the whole sum. Assumes nothing.
-use mathlib.Core.Path.{_≡_}
-use Prim.Native.Nat.{ℕ, _+_, _*_, _%_, _^_, _≤_, _<_}
-use native.Mathlib.Nat.{lt-of-le-of-lt, le-trans, add-sub-cancel-left}
+-- `rows::add_named` meets its contract: each turn takes the lowest set bit away and adds its symbol, and what stands there is always
+-- what stood there with the symbols of the bits taken away. Assumes nothing.
+use mathlib.Core.Path.{_≡_, ap, _∙_}
+use mathlib.Core.List.{List}
+use Prim.Native.Nat.{ℕ, _+_, _*_, _/_, _≤_, _<_}
+use native.Mathlib.Nat.{le-of-eq, lt-of-le-of-lt, add-sub-cancel-left}
 use native.Mathlib.Omega.{arith}
 use lib.Pow.{pow-pos}
-use lib.ListN.{length}
+use lib.ListN.{length, take, drop}
 use denote.Ref.{now}
-use Rattle.space.specs.Lists.{Below}
-use Rattle.octets.proofs.Digits.{one-shl, pow-lt-inv}
+use Rattle.octets.specs.Octets.{addFront}
 use Rattle.octets.proofs.Runs.{known-below}
-use Rattle.rows.proofs.Bits.{Adding, adding-start, adding-less, adding-end, symbol-inside}
+use Rattle.words.specs.Bits.{lowest}
+use Rattle.rows.proofs.Bits.{Adding, adding-start, adding-end, adding-bit, adding-less, symbol-inside, added, length-added, added-zero, added-symbol}
 use Rattle.rows.proofs.add_named.Statement.{statement}
 use Rattle.rows.proofs.add_named.Tie as tie
 
 abbrev Inv-loop : tie.InvT-loop
-Inv-loop into₀ page names l rest₀ into rest = Adding into₀ page names into rest
+Inv-loop into₀ page names l rest₀ into rest = Adding (added into₀) (length into₀) page names into rest
 
 abbrev μ-loop : tie.MeasureT-loop
 μ-loop into₀ page names l rest₀ into rest = rest
 
 loop-holds : tie.Need-loop-holds Inv-loop μ-loop
-loop-holds c = adding-start _ _ _
+loop-holds c = adding-start _ _ _ _ _ (added-zero (now (c .before .before .args .into)))
 
-top-requires : tie.Need-top-requires Inv-loop μ-loop
-top-requires c κs = omega arith
+bottom-requires : tie.Need-bottom-requires Inv-loop μ-loop
+bottom-requires c κs = tt
 
--- the bit is one of 64, names a symbol of the page, and that lies inside it
-module _ (c : tie.After-top Inv-loop μ-loop) where
-  below : (m : ℕ) → c .before .before .before .before .before .args .names < 2 ^ m → c .top .result < m
-  below m h = pow-lt-inv (c .top .result) m (lt-of-le-of-lt (le-trans (c .top .ensures .0) (c .before .before .loop .inv .fewer)) h)
+-- the bit names a symbol of the page, and that lies inside it
+module _ (c : tie.After-bottom Inv-loop μ-loop) where
+  abbrev S : tie.Start Inv-loop μ-loop
+  S = c .before .before .before .before .before
 
-  bit : 1 * 2 ^ c .top .result % 2 ^ 64 ≡ 2 ^ c .top .result
-  bit = one-shl (c .top .result) 64 (below 64 (c .before .before .before .before .before .fits .names .fits))
+  abbrev l : ℕ
+  l = length (now (S .args .into))
 
-  inside : c .top .result * length (now (c .before .before .before .before .before .args .into)) + length (now (c .before .before .before .before .before .args .into))
-      ≤ length (now (c .before .before .before .before .before .args .page))
-  inside = symbol-inside _ (now (c .before .before .before .before .before .args .page)) _ (below _ (c .before .before .before .before .before .pre .1))
+  some : 0 < c .before .before .loop .rest
+  some = omega arith
+
+  bit : lowest (c .before .before .loop .rest) < length (now (S .args .page)) / l
+  bit = adding-bit _ _ _ _ _ _ (S .fits .names .fits) (S .pre .1) (c .before .before .loop .inv) some
+
+  inside : c .bottom .result * l + l ≤ length (now (S .args .page))
+  inside = symbol-inside l (now (S .args .page)) (c .bottom .result) (lt-of-le-of-lt (le-of-eq (c .bottom .ensures)) bit)
 
 mul-start : tie.Need-mul-start Inv-loop μ-loop
 mul-start c = omega (arith, inside c)
@@ -56,36 +62,33 @@ part-add-end c = inside (c .before)
 add-requires : tie.Need-add-requires Inv-loop μ-loop
 add-requires c κs = tt
 
-shl-rest : tie.Need-shl-rest Inv-loop μ-loop
-shl-rest c = below (c .before .before .before .before .before) 64 (c .before .before .before .before .before .before .before .before .before .before .fits .names .fits)
-
-sub-rest : tie.Need-sub-rest Inv-loop μ-loop
-sub-rest c =
-    let t = c .before .before .before .before .before in
-    rw (bit t) (t .top .ensures .0)
+without-bottom-requires : tie.Need-without-bottom-requires Inv-loop μ-loop
+without-bottom-requires c κs = tt
 
 loop-less : tie.Need-loop-less Inv-loop μ-loop
 loop-less c =
-    let t = c .before .before .before .before .before in
-    rw (bit t) (omega (arith, pow-pos (t .top .result), t .top .ensures .0))
+    let t = c .before .before .before .before .before .before in
+    rw (c .without-bottom .ensures) (omega (arith, some t, pow-pos (lowest (t .before .before .loop .rest))))
 
 loop-again : tie.Need-loop-again Inv-loop μ-loop
 loop-again c =
-    let t = c .before .before .before .before .before in
-    let s = t .before .before .before .before .before in
-    let k = t .top .result in
-    let l = length (now (s .args .into)) in
-    let known : Below 256 (now (s .args .page)) = known-below (now (s .args .page)) (t .before .before .before .shared-slice-known .given) in
-    rw (bit t, c .before .before .add .ensures, add-sub-cancel-left (k * l) l)
-    (adding-less _ _ _ _ _ k known (t .before .before .loop .inv) (t .top .ensures .0) (t .top .ensures .1) (below t _ (s .pre .1)))
+    let t = c .before .before .before .before .before .before in
+    let A = S t .args in
+    let known = known-below (now (A .page)) (t .before .before .before .shared-slice-known .given) in
+    let a = t .before .before .loop .inv in
+    let k : ℕ = lowest (t .before .before .loop .rest) in
+    let symbol : List ℕ = take (l t) (drop (k * l t) (now (A .page))) in
+    rw (c .without-bottom .ensures, c .before .before .before .add .ensures, t .bottom .ensures, add-sub-cancel-left (k * l t) (l t))
+    (adding-less _ _ _ _ _ _ (S t .fits .names .fits) (S t .pre .1) a (some t) _
+    (ap (λ (v : List ℕ). addFront v symbol) (a .shown) ∙ added-symbol (now (A .into)) (now (A .page)) known k (bit t) (a .sum)))
 
 same-length : tie.Need-same-length Inv-loop μ-loop
-same-length c = c .before .loop .inv .long
+same-length c = ap length (c .before .loop .inv .shown) ∙ length-added _ _
 
 returns : tie.Need-returns Inv-loop μ-loop
 returns c =
     let done : c .before .loop .rest ≡ 0 = omega arith in
-    adding-end _ _ _ _ (rw done at (c .before .loop .inv))
+    adding-end _ _ _ _ _ (rw done at (c .before .loop .inv))
 
 pub add-named-spec : {M : Type 1} → statement M
 add-named-spec =
@@ -94,15 +97,14 @@ add-named-spec =
     Inv-loop
     μ-loop
     loop-holds
-    top-requires
+    bottom-requires
     mul-start
     add-end
     sub-add
     part-add-start
     part-add-end
     add-requires
-    shl-rest
-    sub-rest
+    without-bottom-requires
     loop-less
     loop-again
     same-length

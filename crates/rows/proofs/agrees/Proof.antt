@@ -1,15 +1,25 @@
--- `rows::agrees` meets its contract: a row of 9 to 40 bytes goes on with room for its payload, and no other row agrees.
+-- `rows::agrees` meets its contract: a row of 9 to 40 bytes agrees where its payload is the sum that its first word names, and no other row does.
 -- Assumes nothing.
-use mathlib.Core.Path.{_≡_, sym, _∙_}
-use Prim.Native.Nat.{ℕ, _-_, _≤_}
+use mathlib.Core.Path.{_≡_, sym, ap, _∙_}
+use mathlib.Core.List.{List}
+use Prim.Native.Nat.{ℕ, _-_, _/_, _%_, _^_, _≤_}
+use native.Mathlib.Nat.{mod-lt}
 use native.Mathlib.Omega.{arith}
-use lib.ListN.{length, take, replicate}
-use lib.Seq.{length-take-le}
+use lib.Dec.{eqb}
+use lib.Pow.{pow-pos}
+use lib.ListN.{length, drop, length-drop}
 use denote.Ref.{now}
 use borrow.Author.Needs.{needs}
 use borrow.Author.Tests.{le-leb, lt-leb}
-use Rattle.rows.specs.Make.{bytesAgree}
-use Rattle.rows.proofs.Written.{bytesAgree-row}
+use borrow.Rule.Slice.PartAt.{part-to-end}
+use Rattle.space.specs.Lists.{Below}
+use Rattle.octets.specs.Octets.{number}
+use Rattle.octets.proofs.Runs.{known-below}
+use Rattle.words.specs.Words.{wordAt}
+use Rattle.rows.specs.Rows.{named}
+use Rattle.rows.specs.Make.{cut, bytesAgree}
+use Rattle.rows.proofs.Bits.{named-cut}
+use Rattle.rows.proofs.Written.{agrees-parts, bytesAgree-row}
 use Rattle.rows.proofs.agrees.Statement.{statement}
 use Rattle.rows.proofs.agrees.Tie as tie
 
@@ -23,34 +33,89 @@ returns-2 c =
     let size = length (now (c .before .before .before .before .args .row)) in
     simp (le-leb 9 size (omega arith), lt-leb size 40 (omega arith))
 
-sub-l : tie.Need-sub-l
-sub-l c = search needs
+word-requires : tie.Need-word-requires
+word-requires c κs = tt
 
-array-borrow-prefix-work : tie.Need-array-borrow-prefix-work
-array-borrow-prefix-work c = omega arith
+sub-low : tie.Need-sub-low
+sub-low c = search needs
 
--- the room has as many bytes as the payload
-payload-room : (size : ℕ) → 9 ≤ size → size ≤ 40 → length (take {A = ℕ} (size - 8) (replicate 32 0)) ≡ size - 8
-payload-room size low high = length-take-le (size - 8) (replicate 32 0) (omega arith)
+div-low : tie.Need-div-low
+div-low c = search needs
 
-slice-aggregate-agrees-in : tie.Need-slice-aggregate-agrees-in
-slice-aggregate-agrees-in c = sym (payload-room _ (c .before .before .if1 .left) (c .before .if2 .left))
+low-requires : tie.Need-low-requires
+low-requires c κs = tt
 
-agrees-in-requires : tie.Need-agrees-in-requires
-agrees-in-requires c κs =
-    let size = length (now (c .before .before .before .before .before .args .row)) in
-    omega (arith, payload-room size (c .before .before .if1 .left) (c .before .if2 .left))
+-- the row agrees where its payload is the sum that its first word names
+module _ (page row : List ℕ) (b : Below 256 row) (low : 9 ≤ length row) (high : length row ≤ 40) where
+  sum-agrees : eqb (number (drop 8 row)) (named (cut (length row - 8) page) (wordAt 0 row % 2 ^ (length page / (length row - 8)))) ≡ bytesAgree page row
+  sum-agrees =
+      let l : ℕ = length row - 8 in
+      ap (eqb (number (drop 8 row))) (named-cut l page (wordAt 0 row)) ∙ agrees-parts l page row b (omega arith)
+      ∙ sym (bytesAgree-row l page row (omega arith) (omega arith) (omega arith))
+
+sub-is-long-sum : tie.Need-sub-is-long-sum
+sub-is-long-sum c = search needs
+
+part-is-long-sum-start : tie.Need-part-is-long-sum-start
+part-is-long-sum-start c = search needs
+
+part-is-long-sum-end : tie.Need-part-is-long-sum-end
+part-is-long-sum-end c = search needs
+
+is-long-sum-requires : tie.Need-is-long-sum-requires
+is-long-sum-requires c κs =
+    let row = now (c .before .before .before .before .before .before .before .before .args .row) in
+    rw (part-to-end row 8, length-drop 8 row, c .before .before .low .ensures) (omega arith, omega arith, mod-lt _ (pow-pos _))
 
 returns-3 : tie.Need-returns-3
 returns-3 c =
-    let t = c .before .before .before in
-    let page = now (t .before .before .before .before .args .page) in
-    let row = now (t .before .before .before .before .args .row) in
-    let low : 9 ≤ length row = t .before .if1 .left in
-    let high : length row ≤ 40 = t .if2 .left in
-    c .before .agrees-in .ensures
-    ∙ rw (payload-room (length row) low high) (sym (bytesAgree-row (length row - 8) page row (omega arith) (omega arith) (omega arith)))
+    let A = c .before .before .before .before .before .before .before .before .before .args in
+    let row = now (A .row) in
+    let known : Below 256 row = known-below row (c .before .before .before .before .before .before .before .shared-slice-known2 .given) in
+    c .is-long-sum .ensures
+    ∙ rw (part-to-end row 8, length-drop 8 row, c .before .before .before .low .ensures, c .before .before .before .before .word .ensures)
+    (sum-agrees (now (A .page)) row known (omega arith) (omega arith))
+
+sub-is-short-sum : tie.Need-sub-is-short-sum
+sub-is-short-sum c = search needs
+
+part-is-short-sum-start : tie.Need-part-is-short-sum-start
+part-is-short-sum-start c = search needs
+
+part-is-short-sum-end : tie.Need-part-is-short-sum-end
+part-is-short-sum-end c = search needs
+
+is-short-sum-requires : tie.Need-is-short-sum-requires
+is-short-sum-requires c κs =
+    let row = now (c .before .before .before .before .before .before .before .before .args .row) in
+    rw (part-to-end row 8, length-drop 8 row, c .before .before .low .ensures) (omega arith, omega arith, mod-lt _ (pow-pos _))
+
+returns-4 : tie.Need-returns-4
+returns-4 c =
+    let A = c .before .before .before .before .before .before .before .before .before .args in
+    let row = now (A .row) in
+    let known : Below 256 row = known-below row (c .before .before .before .before .before .before .before .shared-slice-known2 .given) in
+    c .is-short-sum .ensures
+    ∙ rw (part-to-end row 8, length-drop 8 row, c .before .before .before .low .ensures, c .before .before .before .before .word .ensures)
+    (sum-agrees (now (A .page)) row known (omega arith) (omega arith))
 
 pub agrees-spec : {M : Type 1} → statement M
 agrees-spec =
-    tie.close (tie.spec returns returns-2 sub-l array-borrow-prefix-work slice-aggregate-agrees-in agrees-in-requires returns-3)
+    tie.close
+    (tie.spec
+    returns
+    returns-2
+    word-requires
+    sub-low
+    div-low
+    low-requires
+    sub-is-long-sum
+    part-is-long-sum-start
+    part-is-long-sum-end
+    is-long-sum-requires
+    returns-3
+    sub-is-short-sum
+    part-is-short-sum-start
+    part-is-short-sum-end
+    is-short-sum-requires
+    returns-4)

@@ -1,61 +1,54 @@
--- `enter` meets its contract: work is the row, and what the pass leaves of it goes where it stopped.
+-- `enter` meets its contract: the row stands at the front of work, and what the pass leaves goes where it stopped.
 -- Assumes nothing.
-use mathlib.Core.Path.{_≡_, refl, sym, ap, _∙_}
-use Prim.Native.Nat.{ℕ, _*_, _<_}
+use mathlib.Core.Path.{_≡_, sym, ap, _∙_}
+use Prim.Native.Nat.{ℕ, _<_}
 use borrow.Author.Needs.{needs}
+use mathlib.Core.List.{List}
 use lib.ListN.{length}
-use Rattle.octets.specs.Octets.{bytes}
+use Rattle.octets.specs.Octets.{number}
 use Rattle.octets.proofs.Runs.{known-below}
-use Rattle.slots.specs.Reducing.{stopOf, reduceAnswer, reduceWork}
-use Rattle.octets.proofs.Lay.{copied}
+use Rattle.basis.proofs.Cuts.{cut}
 use Rattle.slots.proofs.Stopping.{stopped-at, spent-at, misfit-never}
-use Rattle.solve.proofs.Entering.{passIn, ready-fits, pass-answer, pass-left, fills-spent, fills-stopped}
+use Rattle.solve.specs.Parts.{wholePass}
+use Rattle.solve.proofs.Entering.{behind, row-front, fills-spent, fills-stopped}
 use Rattle.solve.proofs.enter.Statement.{statement}
 use Rattle.solve.proofs.enter.Tie as tie
 
 copy-requires : tie.Need-copy-requires
 copy-requires c κs = search needs
 
-reduce-requires : tie.Need-reduce-requires
-reduce-requires c κs = search needs
+pass-requires : tie.Need-pass-requires
+pass-requires c κs = search needs
 
--- what the pass of the row answers and leaves
-abbrev Passed : (c : tie.After-reduce) → Type 0
-Passed c =
-    let A = c .before .before .before .before .before .before .before .before .before .before .args in
-    (c .reduce .result ≡ stopOf 64 (passIn (A .slots .now) (A .row .now))) × (c .reduce .last .0 ≡ bytes (length (A .row .now)) (passIn (A .slots .now) (A .row .now) .vector))
+-- the vector that passes
+module _ (c : tie.After-pass) where
+  abbrev S : tie.Start
+  S = c .before .before .before .before .before .before .before .before .before .before
 
-passed : (c : tie.After-reduce) → Passed c
-passed c =
-    let S = c .before .before .before .before .before .before .before .before .before .before in
-    let row = S .args .row .now in
-    let slots = S .args .slots .now in
-    let fit = ready-fits (length row) (S .args .work .now) slots (S .pre) in
-    let work = c .before .before .before .before .before .copy .ensures ∙ copied (length row) row (S .args .work .now) refl (S .pre .one) in (
-      c .reduce .ensures .0 ∙ ap (reduceAnswer 8 slots) work ∙ pass-answer slots row fit,
-      c .reduce .ensures .1 ∙ ap (reduceWork 8 slots) work ∙ pass-left slots row fit,
-    )
+  abbrev slots : List ℕ
+  slots = S .args .slots .now
+
+  abbrev row : List ℕ
+  row = S .args .row .now
+
+  abbrev vector : List ℕ
+  vector = c .before .before .before .before .before .copy .last .0
+
+  long : length vector ≡ 80
+  long = c .before .before .before .before .before .copy .kept .0 ∙ S .pre .one
+
+  front : cut (behind (length row)) (number vector) ≡ number row
+  front = ap (λ (v : List ℕ). cut (behind (length row)) (number v)) (c .before .before .before .before .before .copy .ensures) ∙ row-front row (S .args .work .now) (known-below (S .args .work .now) (c .before .before .before .before .before .before .before .before .slice-known2 .given)) (S .pre .one) (S .pre .most)
 
 enum-known-place : tie.Need-enum-known-place
 enum-known-place c = search needs
 
 -- where it stopped
-abbrev Stop : (c : tie.After-place) → Type 0
-Stop c =
-    let A = c .before .before .before .before .before .before .before .before .before .before .before .before .before .before .args in
-    (passIn (A .slots .now) (A .row .now) .place ≡ c .place .given .0 .0) × (c .place .given .0 .0 < 64)
-
-stop : (c : tie.After-place) → Stop c
-stop c =
-    let A = c .before .before .before .before .before .before .before .before .before .before .before .before .before .before .args in
-    stopped-at 64 (passIn (A .slots .now) (A .row .now)) (c .place .given .0 .0) (sym (passed (c .before .before .before .before) .0) ∙ c .place .given .1)
-
--- work is as long as the row
-long : (c : tie.After-reduce) → length (c .reduce .last .0) ≡ length (c .before .before .before .before .before .before .before .before .before .before .args .row .now)
-long c = c .reduce .kept .0 ∙ c .before .before .before .before .before .copy .kept .0 ∙ c .before .before .before .before .before .before .before .before .before .before .pre .one
+stop : (c : tie.After-place) → (wholePass (slots (c .before .before .before .before)) (vector (c .before .before .before .before)) .place ≡ c .place .given .0 .0) × (c .place .given .0 .0 < 64)
+stop c = stopped-at 64 (wholePass (slots (c .before .before .before .before)) (vector (c .before .before .before .before))) (c .place .given .0 .0) (sym (c .before .before .before .before .pass .ensures .0) ∙ c .place .given .1)
 
 store-requires : tie.Need-store-requires
-store-requires c κs = (stop (c .before .before .before) .1, c .before .before .before .before .before .before .before .before .before .before .before .before .before .before .before .before .before .pre .all ∙ ap (λ (w : ℕ). 64 * w) (sym (long (c .before .before .before .before .before .before .before))))
+store-requires c κs = (stop (c .before .before .before) .1, S (c .before .before .before .before .before .before .before) .pre .all, c .before .before .before .before .before .before .before .pass .kept .0 ∙ long (c .before .before .before .before .before .before .before))
 
 enum-told : tie.Need-enum-told
 enum-told c = search needs
@@ -71,11 +64,9 @@ same-length-2 c = search needs
 
 returns : tie.Need-returns
 returns c =
-    let A = c .before .before .before .before .before .before .before .before .before .before .before .before .before .before .before .before .before .before .before .before .args in
-    let R = c .before .before .before .before .before .before .before .before .before .before in
-    fills-stopped (A .slots .now) (A .row .now) (known-below (A .slots .now) (c .before .before .before .before .before .before .before .before .before .before .before .before .before .before .before .before .before .before .before .slice-known .given))
-    (known-below (A .row .now) (c .before .before .before .before .before .before .before .before .before .before .before .before .before .before .before .before .before .shared-slice-known .given)) (c .before .before .before .before .before .before .place .given .0 .0) (stop (c .before .before .before .before .before .before)) (R .reduce .last .0)
-    (c .before .before .store .last .0) (passed R .1) (rw (long R) at (c .before .before .store .ensures))
+    let K = c .before .before .before .before .before .before .before .before .before .before in
+    fills-stopped (slots K) (vector K) (row K) (S K .pre .least) (S K .pre .most) (front K) (known-below (slots K) (K .before .before .before .before .before .before .before .before .before .slice-known .given)) (known-below (vector K) (K .before .before .before .slice-known3 .given)) (long K)
+    (c .before .before .before .before .before .before .place .given .0 .0) (stop (c .before .before .before .before .before .before)) (K .pass .last .0) (c .before .before .store .last .0) (K .pass .ensures .1) (c .before .before .store .ensures)
 
 same-length-3 : tie.Need-same-length-3
 same-length-3 c = search needs
@@ -85,9 +76,9 @@ same-length-4 c = search needs
 
 returns-2 : tie.Need-returns-2
 returns-2 c =
-    let A = c .before .before .before .before .before .before .before .before .before .before .before .before .before .before .args in
-    fills-spent (A .slots .now) (A .row .now)
-    (spent-at 64 (passIn (A .slots .now) (A .row .now)) (sym (passed (c .before .before .before .before) .0) ∙ c .enum-told .given .1))
+    let K = c .before .before .before .before in
+    fills-spent (slots K) (vector K) (row K) (S K .pre .least) (S K .pre .most) (front K)
+    (spent-at 64 (wholePass (slots K) (vector K)) (sym (K .pass .ensures .0) ∙ c .enum-told .given .1))
 
 same-length-5 : tie.Need-same-length-5
 same-length-5 c = search needs
@@ -97,15 +88,15 @@ same-length-6 c = search needs
 
 returns-3 : tie.Need-returns-3
 returns-3 c =
-    let A = c .before .before .before .before .before .before .before .before .before .before .before .before .before .before .args in
-    absurd (misfit-never 64 (passIn (A .slots .now) (A .row .now)) (sym (passed (c .before .before .before .before) .0) ∙ c .enum-told2 .given .1))
+    let K = c .before .before .before .before in
+    absurd (misfit-never 64 (wholePass (slots K) (vector K)) (sym (K .pass .ensures .0) ∙ c .enum-told2 .given .1))
 
 pub enter-spec : {M : Type 1} → statement M
 enter-spec =
     tie.close
     (tie.spec
     copy-requires
-    reduce-requires
+    pass-requires
     enum-known-place
     store-requires
     enum-told

@@ -2,7 +2,7 @@
 -- Assumes nothing.
 use mathlib.Core.Path.{_≡_, sym, _∙_}
 use mathlib.Core.Bool.{true}
-use Prim.Native.Nat.{_+_, _*_, _/_, _≤_}
+use Prim.Native.Nat.{_+_, _/_, _≤_}
 use native.Mathlib.Nat.{mul-le-mul-right}
 use native.Mathlib.Omega.{arith}
 use borrow.Author.Needs.{needs}
@@ -54,9 +54,6 @@ returns-3 c =
     let A = c .before .before .before .before .before .before .before .before .before .args in
     simp (in-shape (c .before .before .before), in-rows (c .before), lt-leb (length (A .list .now) / (8 + A .l)) (length (A .roles .now)) (c .if3 .taken))
 
-mul-if4 : tie.Need-mul-if4
-mul-if4 c = search needs
-
 returns-4 : tie.Need-returns-4
 unfolding fits rowCount slotBytes
 returns-4 c =
@@ -65,7 +62,7 @@ returns-4 c =
       in-shape (c .before .before .before .before),
       in-rows (c .before .before),
       le-leb (length (A .list .now) / (8 + A .l)) (length (A .roles .now)) (c .before .if3 .left),
-      lt-leb (64 * (8 + A .l)) (length (A .slots .now)) (c .if4 .taken),
+      lt-leb slotBytes (length (A .slots .now)) (c .if4 .taken),
     )
 
 returns-5 : tie.Need-returns-5
@@ -76,7 +73,7 @@ returns-5 c =
       in-shape (c .before .before .before .before),
       in-rows (c .before .before),
       le-leb (length (A .list .now) / (8 + A .l)) (length (A .roles .now)) (c .before .if3 .left),
-      le-leb (64 * (8 + A .l)) (length (A .slots .now)) (c .if4 .left),
+      le-leb slotBytes (length (A .slots .now)) (c .if4 .left),
     )
 
 pub fitting-spec : {M : Type 1} → statement M
@@ -91,6 +88,5 @@ fitting-spec =
     mul-size
     div-if3
     returns-3
-    mul-if4
     returns-4
     returns-5)

@@ -1,25 +1,41 @@
--- `store` meets its contract: the vector is laid at its place, and no slot on either side changes.
+-- `store` meets its contract: the vector is laid at its place, no slot on either side changes, and the head stands behind them all.
 -- Assumes nothing.
-use mathlib.Core.Path.{_≡_, refl, ap, _∙_}
-use Prim.Native.Nat.{_+_, _*_, _-_, _≤_}
+use mathlib.Core.Path.{_≡_, ap, _∙_}
+use Prim.Native.Nat.{ℕ, _+_, _*_, _-_, _≤_}
 use native.Mathlib.Omega.{arith}
 use borrow.Author.Needs.{needs}
+use mathlib.Core.List.{List}
 use lib.ListN.{length}
-use Rattle.octets.specs.Octets.{numbers}
-use Rattle.octets.proofs.Views.{part-room}
-use Rattle.octets.proofs.Laid.{numbers-lay}
-use Rattle.solve.proofs.Slots.{part-copied}
+use borrow.Rule.Slice.PartMut.{putMid}
+use Rattle.octets.specs.Octets.{numbers, lay}
+use Rattle.octets.proofs.Lay.{length-lay}
+use Rattle.octets.proofs.Laid.{numbers-before, numbers-lay}
+use Rattle.octets.proofs.Parts.{back}
+use Rattle.octets.proofs.Views.{part-room, length-part}
+use Rattle.solve.proofs.Slots.{slot-bytes, part-copied}
 use Rattle.solve.proofs.store.Statement.{statement}
 use Rattle.solve.proofs.store.Tie as tie
 
-room : (c : tie.Start) → c .args .place * length (c .args .vector .now) + length (c .args .vector .now) ≤ length (c .args .slots .now)
-room c = part-room (length (c .args .vector .now)) 64 (c .args .place) (c .args .slots .now) (omega arith) (c .pre .0)
+room : (c : tie.Start) → c .args .place * 80 + 80 ≤ length (c .args .slots .now)
+room c = part-room 80 64 (c .args .place) (c .args .slots .now) (omega (arith, slot-bytes, c .pre)) (c .pre .0)
 
 mul-at : tie.Need-mul-at
-mul-at c = omega (arith, room (c .before .before), c .before .before .good)
+mul-at c = search needs
 
 add-end : tie.Need-add-end
-add-end c = omega (arith, room (c .before .before), c .before .before .good)
+add-end c = search needs
+
+sub-h : tie.Need-sub-h
+sub-h c = search needs
+
+mul-h : tie.Need-mul-h
+mul-h c = search needs
+
+add-h : tie.Need-add-h
+add-h c = search needs
+
+add-i : tie.Need-add-i
+add-i c = search needs
 
 sub-copy : tie.Need-sub-copy
 sub-copy c = search needs
@@ -33,17 +49,70 @@ part-copy-end c = omega (arith, room (c .before .before))
 copy-requires : tie.Need-copy-requires
 copy-requires c κs = search needs
 
+sub-put-little : tie.Need-sub-put-little
+sub-put-little c = search needs
+
+part-put-little-start : tie.Need-part-put-little-start
+part-put-little-start c = search needs
+
+-- the slots once the vector is there
+module _ (c : tie.After-copy) where
+  abbrev S : tie.Start
+  S = c .before .before .before .before
+
+  abbrev laid : List ℕ
+  laid = lay (S .args .place * 80) (S .args .vector .now) (S .args .slots .now)
+
+  is-laid : putMid (S .args .place * 80) (S .args .place * 80 + 80 - S .args .place * 80) (S .args .slots .now) (c .copy .last .0) ≡ laid
+  is-laid =
+      let at : ℕ = S .args .place * 80 in
+      let size : at + 80 - at ≡ 80 = omega arith in
+      part-copied 80 at (at + 80 - at) (S .args .slots .now) (S .args .vector .now) (c .copy .last .0) size (room S) (S .pre .2) (c .copy .ensures)
+
+  long : length laid ≡ 5632
+  long = length-lay (S .args .place * 80) (S .args .vector .now) (S .args .slots .now) (omega (arith, room S, S .pre)) ∙ S .pre .1 ∙ slot-bytes
+
+part-put-little-end : tie.Need-part-put-little-end
+part-put-little-end c = omega (arith, ap length (is-laid (c .before .before)), long (c .before .before))
+
+word-requires : tie.Need-word-requires
+word-requires c κs = search needs
+
+put-little-requires : tie.Need-put-little-requires
+put-little-requires c κs = search needs
+
 same-length : tie.Need-same-length
 same-length c = search needs
 
 returns : tie.Need-returns
 returns c =
-    let S = c .before .before .before .before .before .before in
-    let w = length (S .args .vector .now) in
-    let at = S .args .place * w in
-    let size : at + w - at ≡ w = omega arith in
-    ap (numbers w 64) (part-copied w at (at + w - at) (S .args .slots .now) (S .args .vector .now) (c .before .before .copy .last .0) size (room S) refl (c .before .before .copy .ensures))
-    ∙ numbers-lay w 64 (S .args .place) (S .args .vector .now) (S .args .slots .now) refl (S .pre .0) (omega (arith, S .pre .1))
+    let K = c .before .before .before .before .before .before .before in
+    let s = S K in
+    let h : ℕ = 5120 + 8 * (63 - s .args .place) in
+    let head : List ℕ = c .before .before .put-little .last .0 in
+    let eight : h + 8 - h ≡ 8 = omega arith in
+    let size : length head ≡ h + 8 - h = c .before .before .put-little .kept .0 ∙ rw (is-laid K, eight) (length-part 8 h (laid K) (omega (arith, long K))) in
+    rw (is-laid K) (ap (numbers 80 64) (back h (h + 8 - h) head (laid K) size) ∙ numbers-before 80 64 h head (laid K) (omega arith) (omega (arith, long K))
+    ∙ numbers-lay 80 64 (s .args .place) (s .args .vector .now) (s .args .slots .now) (s .pre .2) (s .pre .0) (omega (arith, slot-bytes, s .pre)))
 
 pub store-spec : {M : Type 1} → statement M
-store-spec = tie.close (tie.spec mul-at add-end sub-copy part-copy-start part-copy-end copy-requires same-length returns)
+store-spec =
+    tie.close
+    (tie.spec
+    mul-at
+    add-end
+    sub-h
+    mul-h
+    add-h
+    add-i
+    sub-copy
+    part-copy-start
+    part-copy-end
+    copy-requires
+    sub-put-little
+    part-put-little-start
+    part-put-little-end
+    word-requires
+    put-little-requires
+    same-length
+    returns)

@@ -1,29 +1,34 @@
 -- `symbol` meets its contract: what the pass of (2^k, 0) leaves behind the constraint.
 -- Assumes nothing.
-use mathlib.Core.Path.{ap, _∙_}
+use mathlib.Core.Path.{_≡_, ap, _∙_}
 use Prim.Native.Nat.{ℕ, _-_}
 use native.Mathlib.Omega.{arith}
 use borrow.Author.Needs.{needs}
+use mathlib.Core.List.{List}
 use lib.ListN.{length, take, drop, length-drop}
-use lib.Seq.{take-all}
+use lib.Seq.{take-all, length-take-le}
 use Rattle.octets.specs.Octets.{over}
-use Rattle.octets.proofs.Lay.{copied}
-use Rattle.solve.proofs.Entering.{ready-fits}
+use Rattle.octets.proofs.Lay.{over-all}
+use Rattle.solve.specs.Parts.{unitOf}
 use Rattle.solve.proofs.Units.{symbol-left}
 use Rattle.solve.proofs.symbol.Statement.{statement}
 use Rattle.solve.proofs.symbol.Tie as tie
 
 unit-requires : tie.Need-unit-requires
-unit-requires c κs = search needs
+unit-requires c κs = let S = c .before .before .before .before in (omega (arith, S .pre .0 .one), S .pre .1)
 
-reduce-requires : tie.Need-reduce-requires
-reduce-requires c κs = search needs
+pass-requires : tie.Need-pass-requires
+pass-requires c κs = let S = c .before .before .before .before .before .before .before .before in (c .before .before .before .unit .kept .0 ∙ S .pre .0 .one, S .pre .0 .all)
+
+-- what the pass leaves is as long as work
+long : (c : tie.After-pass) → length (c .pass .last .0) ≡ 80
+long c = c .pass .kept .0 ∙ c .before .before .before .before .unit .kept .0 ∙ c .before .before .before .before .before .before .before .before .before .pre .0 .one
 
 sub-copy : tie.Need-sub-copy
-sub-copy c = search needs
+sub-copy c = omega (arith, long (c .before .before .before))
 
 part-copy-start : tie.Need-part-copy-start
-part-copy-start c = search needs
+part-copy-start c = omega (arith, long (c .before .before .before .before))
 
 part-copy-end : tie.Need-part-copy-end
 part-copy-end c = search needs
@@ -40,22 +45,22 @@ same-length-2 c = search needs
 returns : tie.Need-returns
 returns c =
     let S = c .before .before .before .before .before .before .before .before .before .before .before .before .before .before .before .before .before in
-    let w = length (S .args .work .now) in
-    let out = S .args .out .now in
-    let left = c .before .before .before .before .before .before .before .before .reduce .last .0 in
-    let size = c .before .before .before .before .before .before .before .before .reduce .kept .0 ∙ c .before .before .before .before .before .before .before .before .before .before .before .before .unit .kept .0 in
-    let behind = take-all (length left - 8) (drop 8 left) (omega (arith, length-drop 8 left)) in
-    c .before .before .copy .ensures ∙ ap (λ t. over (take (length out) t) out) behind
-    ∙ copied (w - 8) (drop 8 left) out (length-drop 8 left ∙ ap (λ (j : ℕ). j - 8) size) (S .pre .1 .0)
-    ∙ symbol-left w (S .args .k) (S .args .slots .now) (c .before .before .before .before .before .before .before .before .before .before .before .before .unit .last .0) left (S .pre .0 .least)
-    (ready-fits w (S .args .work .now) (S .args .slots .now) (S .pre .0)) (S .pre .1 .1) (c .before .before .before .before .before .before .before .before .before .before .before .before .unit .ensures) (c .before .before .before .before .before .before .before .before .reduce .ensures .1)
+    let K = c .before .before .before .before .before .before .before .before in
+    let out : List ℕ = S .args .out .now in
+    let left : List ℕ = K .pass .last .0 in
+    let part : List ℕ = take (length out) (drop 8 left) in
+    let all : take (length left - 8) (drop 8 left) ≡ drop 8 left = take-all (length left - 8) (drop 8 left) (omega (arith, length-drop 8 left)) in
+    let size : length part ≡ length out = length-take-le (length out) (drop 8 left) (omega (arith, length-drop 8 left, long K, S .pre .0 .most)) in
+    let unit : K .before .before .before .before .unit .last .0 ≡ unitOf 80 (S .args .k) = K .before .before .before .before .unit .ensures ∙ ap (λ (w : ℕ). unitOf w (S .args .k)) (S .pre .0 .one) in
+    c .before .before .copy .ensures ∙ ap (λ (t : List ℕ). over (take (length out) t) out) all ∙ over-all part out size
+    ∙ symbol-left (length out) (S .args .k) (S .args .slots .now) (K .before .before .before .before .unit .last .0) left (omega (arith, S .pre .0 .most)) (S .pre .1) unit (K .pass .ensures .1)
 
 pub symbol-spec : {M : Type 1} → statement M
 symbol-spec =
     tie.close
     (tie.spec
     unit-requires
-    reduce-requires
+    pass-requires
     sub-copy
     part-copy-start
     part-copy-end

@@ -1,6 +1,6 @@
 -- `symbols` meets its contract: after k turns the first k symbols stand in the page.
 -- Assumes nothing.
-use mathlib.Core.Path.{_∙_}
+use mathlib.Core.Path.{sym, _∙_}
 use Prim.Native.Nat.{ℕ, _+_, _-_, _≤_}
 use native.Mathlib.Omega.{arith}
 use borrow.Author.Needs.{needs}
@@ -12,33 +12,30 @@ use Rattle.solve.proofs.Writing.{Writing, writing-start, writing-end, w
 use Rattle.solve.proofs.symbols.Statement.{statement}
 use Rattle.solve.proofs.symbols.Tie as tie
 
--- the symbols for rows of w bytes
+-- the symbols of l bytes
 abbrev symbolOf : ℕ → List ℕ → ℕ → ℕ
-symbolOf w slots = symbolIn (w - 8) (slotsIn w slots)
+symbolOf l slots = symbolIn l (slotsIn (8 + l) slots)
 
 abbrev Inv-loop : tie.InvT-loop
 Inv-loop page₀ work₀ slots n l at₀ k₀ page work at k =
-    Writing n (length work₀ - 8) (symbolOf (length work₀) slots) page₀ page k at × Ready (length work₀) work slots
+    Writing n l (symbolOf l slots) page₀ page k at × Ready (8 + l) work slots
 
 abbrev μ-loop : tie.MeasureT-loop
 μ-loop page₀ work₀ slots n l at₀ k₀ page work at k = n - k
 
-sub-l : tie.Need-sub-l Inv-loop μ-loop
-sub-l c = c .before .before .before .pre .0 .least
-
 loop-holds : tie.Need-loop-holds Inv-loop μ-loop
 loop-holds c =
     let S = c .before .before .before in
-    let w = length (S .args .work .now) in
-    (writing-start (S .args .n) (w - 8) (symbolOf w (S .args .slots .now)) (S .args .page .now), S .pre .0)
+    let size = S .args .l in
+    (writing-start (S .args .n) size (symbolOf size (S .args .slots .now)) (S .args .page .now), S .pre .0)
 
 -- the next symbol is in the page
-room : (c : tie.In-loop Inv-loop μ-loop) → c .before .loop .at + (length (c .before .before .before .before .before .args .work .now) - 8) ≤ length (c .before .loop .page)
+room : (c : tie.In-loop Inv-loop μ-loop) → c .before .loop .at + c .before .before .before .before .before .args .l ≤ length (c .before .loop .page)
 room c =
     let S = c .before .before .before .before .before in
-    let w = length (S .args .work .now) in
+    let size = S .args .l in
     let l = c .before .loop in
-    writing-room (S .args .n) (w - 8) (symbolOf w (S .args .slots .now)) (S .args .page .now) (l .page) (l .k) (l .at) (S .pre .1 .1) (l .inv .0) (c .loop-test .taken)
+    writing-room (S .args .n) size (symbolOf size (S .args .slots .now)) (S .args .page .now) (l .page) (l .k) (l .at) (S .pre .1 .1) (l .inv .0) (c .loop-test .taken)
 
 add-end : tie.Need-add-end Inv-loop μ-loop
 add-end c = omega (arith, room c, c .before .loop .inv .0 .long, c .before .before .before .before .before .good)
@@ -55,12 +52,11 @@ part-symbol-end c = omega (arith, room c)
 symbol-requires : tie.Need-symbol-requires Inv-loop μ-loop
 symbol-requires c κs =
     let S = c .before .before .before .before .before .before .before in
-    let w = length (S .args .work .now) in
+    let size = S .args .l in
     let l = c .before .before .before .loop in
-    let size = l .inv .1 .one in
-    let part = writing-part (S .args .n) (w - 8) (symbolOf w (S .args .slots .now)) (S .args .page .now) (l .page) (l .k) (l .at) (S .pre .1 .1) (l .inv .0)
+    let part = writing-part (S .args .n) size (symbolOf size (S .args .slots .now)) (S .args .page .now) (l .page) (l .k) (l .at) (S .pre .1 .1) (l .inv .0)
     (c .before .before .loop-test .taken) in
-    (rw size (l .inv .1), (rw size part, omega (arith, c .before .before .loop-test .taken, S .pre .1)))
+    (rw part (l .inv .1), omega (arith, c .before .before .loop-test .taken, S .pre .1))
 
 add-k : tie.Need-add-k Inv-loop μ-loop
 add-k c = omega (arith, c .before .before .before .before .before .before .before .loop-test .taken, c .before .before .before .before .before .before .before .before .before .before .before .before .pre .1)
@@ -71,12 +67,14 @@ loop-less c = omega (arith, c .before .before .before .before .before .before .b
 loop-again : tie.Need-loop-again Inv-loop μ-loop
 loop-again c =
     let S = c .before .before .before .before .before .before .before .before .before .before .before .before in
-    let w = length (S .args .work .now) in
+    let size = S .args .l in
     let l = c .before .before .before .before .before .before .before .before .loop in
     let R = l .inv .1 in
+    let part = writing-part (S .args .n) size (symbolOf size (S .args .slots .now)) (S .args .page .now) (l .page) (l .k) (l .at) (S .pre .1 .1) (l .inv .0)
+    (c .before .before .before .before .before .before .before .loop-test .taken) in
     let s = c .before .before .before .before .symbol in (
-      writing-more (S .args .n) (w - 8) (symbolOf w (S .args .slots .now)) (S .args .page .now) (l .page) (l .k) (l .at) (S .pre .1 .1) (l .inv .0)
-          (c .before .before .before .before .before .before .before .loop-test .taken) (s .last .0) (rw (R .one) at (s .ensures)),
+      writing-more (S .args .n) size (symbolOf size (S .args .slots .now)) (S .args .page .now) (l .page) (l .k) (l .at) (S .pre .1 .1) (l .inv .0)
+          (c .before .before .before .before .before .before .before .loop-test .taken) (s .last .0) (rw part at (s .ensures)),
       record { least = R .least; most = R .most; one = s .kept .1 .0 ∙ R .one; all = R .all },
     )
 
@@ -84,15 +82,15 @@ same-length : tie.Need-same-length Inv-loop μ-loop
 same-length c = c .before .loop .inv .0 .long
 
 same-length-2 : tie.Need-same-length-2 Inv-loop μ-loop
-same-length-2 c = c .before .loop .inv .1 .one
+same-length-2 c = c .before .loop .inv .1 .one ∙ sym (c .before .before .before .before .before .pre .0 .one)
 
 returns : tie.Need-returns Inv-loop μ-loop
 unfolding pageIn
 returns c =
     let S = c .before .before .before .before .before in
-    let w = length (S .args .work .now) in
+    let size = S .args .l in
     let l = c .before .loop in
-    writing-end (S .args .n) (w - 8) (symbolOf w (S .args .slots .now)) (S .args .page .now) (l .page) (l .k) (l .at) (S .pre .1 .1) (l .inv .0) (c .loop-test .left)
+    writing-end (S .args .n) size (symbolOf size (S .args .slots .now)) (S .args .page .now) (l .page) (l .k) (l .at) (S .pre .1 .1) (l .inv .0) (c .loop-test .left)
 
 pub symbols-spec : {M : Type 1} → statement M
 symbols-spec =
@@ -100,7 +98,6 @@ symbols-spec =
     (tie.spec
     Inv-loop
     μ-loop
-    sub-l
     loop-holds
     add-end
     sub-symbol

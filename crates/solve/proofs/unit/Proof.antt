@@ -9,7 +9,7 @@ use lib.ListN.{length, take, drop}
 use lib.Seq.{length-take-le}
 use Rattle.octets.specs.Octets.{bytes}
 use Rattle.octets.proofs.Digits.{one-shl}
-use Rattle.solve.proofs.Units.{drop-zeros}
+use Rattle.octets.proofs.Loaded.{drop-zeros}
 use Rattle.solve.proofs.unit.Statement.{statement}
 use Rattle.solve.proofs.unit.Tie as tie
 

@@ -1,3 +1,5 @@
+-- `words::little` meets its contract: the eight bytes are there, or the answer is 0.
+-- Assumes nothing.
 use mathlib.Core.Path.{_≡_, sym, _∙_}
 use Prim.Native.Nat.{_+_, _-_}
 use denote.Ref.{now}
@@ -9,41 +11,30 @@ use native.Mathlib.Omega.{arith}
 use borrow.Author.Needs.{needs}
 use Rattle.words.proofs.little.Statement.{statement}
 use Rattle.words.proofs.little.Tie as tie
-use Rattle.words.proofs.little.Reads as reads
-use Rattle.words.proofs.little.Lts as lts
-use Rattle.words.proofs.eight_little.Reads as eight-little-reads
 
--- src/lib.rt:69:9
 returns : tie.Need-returns
 unfolding littleAt
 returns c = rw (lt-leb (c .before .before .args .i + 8) (length (now (c .before .before .args .from))) (omega arith))
 
--- src/lib.rt:72:9
 returns-2 : tie.Need-returns-2
 unfolding littleAt
 returns-2 c = rw (lt-leb (c .before .before .before .args .i + 8) (length (now (c .before .before .before .args .from))) (omega arith))
 
--- src/lib.rt:74:13
 add-e : tie.Need-add-e
 add-e c = search needs
 
--- src/lib.rt:75:18
 sub-eight-little : tie.Need-sub-eight-little
 sub-eight-little c = search needs
 
--- src/lib.rt:75:18
 part-eight-little-start : tie.Need-part-eight-little-start
 part-eight-little-start c = search needs
 
--- src/lib.rt:75:18
 part-eight-little-end : tie.Need-part-eight-little-end
 part-eight-little-end c = search needs
 
--- src/lib.rt:75:5
 eight-little-requires : tie.Need-eight-little-requires
 eight-little-requires c κs = search needs
 
--- src/lib.rt:64:1
 returns-3 : tie.Need-returns-3
 returns-3 c =
     let A = c .before .before .before .before .before .args in

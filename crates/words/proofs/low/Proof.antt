@@ -1,3 +1,5 @@
+-- `words::low` meets its contract: a remainder by 2^n, and the number itself where n is no less than the width.
+-- Assumes nothing.
 use mathlib.Core.Path.{sym, ap}
 use Prim.Native.Nat.{ℕ, _%_}
 use native.Mathlib.Nat.{mod-eq-of-lt, lt-of-lt-of-le}
@@ -7,22 +9,16 @@ use native.Mathlib.Omega.{arith}
 use borrow.Author.Needs.{needs}
 use Rattle.words.proofs.low.Statement.{statement}
 use Rattle.words.proofs.low.Tie as tie
-use Rattle.words.proofs.low.Reads as reads
-use Rattle.words.proofs.low.Lts as lts
 
--- src/lib.rt:111:22
 shl-result : tie.Need-shl-result
 shl-result c = search needs
 
--- src/lib.rt:111:17
 rem-result : tie.Need-rem-result
 rem-result c = rw (one-shl (c .before .args .n) 64 (omega arith)) (pow-pos (c .before .args .n))
 
--- src/lib.rt:108:1
 returns : tie.Need-returns
 returns c = ap (λ (m : ℕ). c .before .args .x % m) (one-shl (c .before .args .n) 64 (omega arith))
 
--- src/lib.rt:108:1
 returns-2 : tie.Need-returns-2
 returns-2 c = sym (mod-eq-of-lt (lt-of-lt-of-le (c .before .fits .x .fits) (pow-mono (c .if1 .left))))
 

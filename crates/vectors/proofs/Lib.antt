@@ -1,0 +1,4 @@
+pub mod Flats
+pub mod Vectors
+pub mod Stored
+pub mod Settled
