@@ -8,27 +8,41 @@ use crate::number::*;
 /// A row, its payload filled up with zero bytes to 32; or a set of up to 320 kept places.
 type Words = [u64; 5];
 
+/// A payload or a symbol, filled up with zero bytes to 32.
+type Symbol = [u64; 4];
+
+/// One for each bit of a row; there are never more kept rows.
+const SLOTS: usize = 64 * 5;
+
 /// A sum of kept rows, and the kept places of these rows (the paper's b and q).
+#[derive(Clone, Default)]
 struct Sum {
     row: Words,
     set: Words,
 }
 
-struct Basis {
-    /// By leading bit of the sum.
-    slots: Vec<Option<Sum>>,
+/// A sum's head is its first word that is not zero; the lowest one in the head gives its slot.
+///
+/// The next slot depends on the head of the last one alone. With HEADS it is looked up in a table
+/// of heads, which is quicker than to find the sum first.
+struct Basis<const HEADS: bool> {
+    /// The sum in each slot; all zero in an empty one.
+    sums: Vec<Sum>,
+    /// With HEADS, the head of each of them.
+    heads: [u64; SLOTS],
     /// The arrival number of each kept place.
     kept: Vec<usize>,
-    /// The uses of each kept place.
-    uses: Vec<u16>,
+    /// The uses of each kept place, and zeros after them.
+    uses: [u16; SLOTS],
 }
 
-impl Basis {
+impl<const HEADS: bool> Basis<HEADS> {
     fn new() -> Self {
         Basis {
-            slots: (0..64 * 5).map(|_| None).collect(),
-            kept: Vec::new(),
-            uses: Vec::new(),
+            sums: vec![Sum::default(); SLOTS],
+            heads: [0; SLOTS],
+            kept: Vec::with_capacity(SLOTS),
+            uses: [0; SLOTS],
         }
     }
 
@@ -36,18 +50,27 @@ impl Basis {
     fn take(&mut self, arrival: usize, mut row: Words) {
         let mut set = [0; 5];
         for word in 0..5 {
-            while row[word] != 0 {
-                let slot = &mut self.slots[64 * word + row[word].leading_zeros() as usize];
-                let Some(sum) = slot else {
+            let mut head = row[word];
+            while head != 0 {
+                let slot = 64 * word + head.trailing_zeros() as usize;
+                let other = if HEADS {
+                    self.heads[slot]
+                } else {
+                    self.sums[slot].row[word]
+                };
+                if other == 0 {
                     let kept_place = self.kept.len();
                     set[kept_place / 64] |= 1 << (kept_place % 64);
-                    *slot = Some(Sum { row, set });
+                    self.sums[slot] = Sum { row, set };
+                    if HEADS {
+                        self.heads[slot] = head;
+                    }
                     self.kept.push(arrival);
-                    self.uses.push(0);
                     return;
-                };
-                xor(&mut row, &sum.row);
-                xor(&mut set, &sum.set);
+                }
+                head ^= other;
+                xor(&mut row, &self.sums[slot].row);
+                xor(&mut set, &self.sums[slot].set);
             }
         }
         for (i, &places) in set.iter().enumerate() {
@@ -59,7 +82,7 @@ impl Basis {
 
     /// The arrival numbers of the n rows with most uses, or None when not unique: line 26.
     fn pick(&self, n: usize) -> Option<Vec<usize>> {
-        let mut falling = self.uses.clone();
+        let mut falling = self.uses[..self.kept.len()].to_vec();
         falling.sort_unstable_by(|a, b| b.cmp(a));
         // If any threshold leaves exactly n rows, this one does; with r = n it always does.
         let threshold = falling[n - 1];
@@ -82,12 +105,37 @@ pub fn read_list(
     roles: &mut [u8],
     scratch: &mut [u8],
 ) -> Answer {
+    read::<false>(n, l, list, page, uses, roles, scratch)
+}
+
+/// The same with a table of heads, as the proved reader has one.
+pub fn read_list_by_heads(
+    n: u8,
+    l: u8,
+    list: &[u8],
+    page: &mut [u8],
+    uses: &mut [u16],
+    roles: &mut [u8],
+    scratch: &mut [u8],
+) -> Answer {
+    read::<true>(n, l, list, page, uses, roles, scratch)
+}
+
+fn read<const HEADS: bool>(
+    n: u8,
+    l: u8,
+    list: &[u8],
+    page: &mut [u8],
+    uses: &mut [u16],
+    roles: &mut [u8],
+    scratch: &mut [u8],
+) -> Answer {
     if let Some(refused) = refusal(n, l, list, page, uses, roles, scratch) {
         return refused;
     }
     let (n, l) = (usize::from(n), usize::from(l));
     let rows: Vec<Words> = list.chunks_exact(8 + l).map(words).collect();
-    let mut basis = Basis::new();
+    let mut basis = Basis::<HEADS>::new();
     for (arrival, &row) in rows.iter().enumerate() {
         basis.take(arrival, row);
     }
@@ -104,44 +152,47 @@ pub fn read_list(
         roles[arrival] = 2;
     }
     let picked_rows = picked.iter().map(|&arrival| rows[arrival]).collect();
-    let Some(solved) = solve(picked_rows) else {
+    let Some(symbols) = solve(picked_rows) else {
         return Answer::without_page(SINGULAR, rank);
     };
-    for (symbol, row) in page.chunks_exact_mut(l).zip(&solved) {
-        symbol.copy_from_slice(&bytes(row)[8..8 + l]);
+    for (part, symbol) in page.chunks_exact_mut(l).zip(&symbols) {
+        part.copy_from_slice(&bytes(symbol)[..l]);
     }
     Answer {
         number: DONE,
         rank,
         place: 0,
-        agreement: rows.iter().filter(|&&row| agrees(row, &solved)).count(),
+        agreement: rows.iter().filter(|row| agrees(row, &symbols)).count(),
     }
 }
 
-/// Turns the n picked rows into the rows that name one symbol each, in the order of symbols.
-fn solve(mut rows: Vec<Words>) -> Option<Vec<Words>> {
+/// Solves the n picked rows for the symbols, in the order of symbols.
+fn solve(mut rows: Vec<Words>) -> Option<Vec<Symbol>> {
     for k in 0..rows.len() {
         let found = (k..rows.len()).find(|&i| rows[i][0] >> k & 1 == 1)?;
         rows.swap(k, found);
         let pivot = rows[k];
-        for (i, row) in rows.iter_mut().enumerate() {
-            if i != k && row[0] >> k & 1 == 1 {
-                xor(row, &pivot);
-            }
+        for row in &mut rows {
+            // All ones or zero: about half the rows name symbol k, and a branch would be slower.
+            let mask = (row[0] >> k & 1).wrapping_neg();
+            xor(row, &pivot.map(|word| word & mask));
         }
+        // It has cancelled itself too.
+        rows[k] = pivot;
     }
-    Some(rows)
+    Some(rows.into_iter().map(|[_, symbol @ ..]| symbol).collect())
 }
 
-/// The solved rows cancel the constraint and leave of the payload what disagrees.
-fn agrees(mut row: Words, solved: &[Words]) -> bool {
-    for k in ones(row[0]) {
-        xor(&mut row, &solved[k]);
+/// Whether the symbols that the constraint names leave nothing of the payload.
+fn agrees(row: &Words, symbols: &[Symbol]) -> bool {
+    let [constraint, mut payload @ ..] = *row;
+    for k in ones(constraint) {
+        xor(&mut payload, &symbols[k]);
     }
-    row == [0; 5]
+    payload == [0; 4]
 }
 
-fn xor(sum: &mut Words, other: &Words) {
+fn xor<const LENGTH: usize>(sum: &mut [u64; LENGTH], other: &[u64; LENGTH]) {
     for (word, other) in sum.iter_mut().zip(other) {
         *word ^= other;
     }
@@ -160,6 +211,6 @@ fn words(row: &[u8]) -> Words {
     std::array::from_fn(|i| u64::from_be_bytes(std::array::from_fn(|j| padded[8 * i + j])))
 }
 
-fn bytes(row: &Words) -> [u8; 40] {
-    std::array::from_fn(|i| row[i / 8].to_be_bytes()[i % 8])
+fn bytes(symbol: &Symbol) -> [u8; 32] {
+    std::array::from_fn(|i| symbol[i / 8].to_be_bytes()[i % 8])
 }

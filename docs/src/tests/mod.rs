@@ -43,12 +43,15 @@ impl Lent {
         reader(n, l, list, page, uses, roles, scratch)
     }
 
-    /// Wants the same answer and the same bytes from both readers.
+    /// Wants the same answer and the same bytes from all readers.
     fn read(&mut self, n: u8, l: u8, list: &[u8]) -> Answer {
-        let mut other = self.clone();
+        let before = self.clone();
         let answer = self.read_with(reading::read_list, n, l, list);
-        assert_eq!(other.read_with(straight::read_list, n, l, list), answer);
-        assert!(*self == other, "the readers left different bytes behind");
+        for reader in [straight::read_list as Reader, straight::read_list_by_heads] {
+            let mut other = before.clone();
+            assert_eq!(other.read_with(reader, n, l, list), answer);
+            assert!(*self == other, "the readers left different bytes behind");
+        }
         answer
     }
 
