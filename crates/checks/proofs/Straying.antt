@@ -1,8 +1,7 @@
 -- Looking for a stray bit row by row: what the loop knows before each row, and the constraint of a row's bytes.
 -- Assumes nothing.
 use mathlib.Core.Path.{_≡_, refl, sym, ap, _∙_}
-use Prim.Native.Nat.{ℕ, suc, _+_, _-_, _*_, _/_, _%_, _^_, _≤_, _<_}
-use native.Mathlib.Nat.{mod-eq-of-lt}
+use Prim.Native.Nat.{ℕ, suc, _+_, _-_, _*_, _/_, _^_, _≤_, _<_}
 use native.Mathlib.Omega.{arith}
 use native.Mathlib.Numerals.{add-one}
 use mathlib.Core.Bool.{true, false, cond}
@@ -15,6 +14,8 @@ use Rattle.space.specs.Lists.{Below}
 use Rattle.octets.specs.Octets.{number}
 use Rattle.octets.proofs.Numbers.{number-append, number-lt}
 use Rattle.octets.proofs.Runs.{below-parts, getD-numbers}
+use Rattle.words.specs.Words.{wordAt}
+use Rattle.words.proofs.Words.{word-inside}
 use Rattle.rows.specs.Rows.{rowBytes, rowCount, rowsOf, constraint}
 use Rattle.rows.proofs.Lists.{length-rowsOf}
 use Rattle.reading.specs.declared.Answer.the-variants as answer
@@ -48,11 +49,9 @@ module _ (n l : ℕ) (list : List ℕ) (i : ℕ) where
   pub stray-never : rowCount l list ≤ i → strayFrom n l i (drop i (rowsOf l list)) ≡ passes
   stray-never h = ap (strayFrom n l i) (drop-of-length-le (rowsOf l list) {i = i} (rw (length-rowsOf l list) h)) ∙ unfold strayFrom in refl
 
--- eight bytes are a number of 64 bits
-pub constraint-word : (row : List ℕ) → 8 ≤ length row → Below 256 row → number (take 8 row) % 2 ^ 64 ≡ constraint (length row - 8) (number row)
-constraint-word row h b =
-    let size : length (take 8 row) ≡ 8 = length-take-le 8 row h in
-    mod-eq-of-lt (rw size at (number-lt (take 8 row) (below-parts 256 8 row b .0))) ∙ sym (row-constraint row h b)
+-- and that is its first word
+pub constraint-word : (row : List ℕ) → 8 ≤ length row → Below 256 row → wordAt 0 row ≡ constraint (length row - 8) (number row)
+constraint-word row h b = sym (row-constraint row h b ∙ word-inside 0 row h)
 
 -- the bytes of row i, as a part of the list of whatever length it is written
 pub part-asked : (n l : ℕ) (list : List ℕ) (i k : ℕ) → k ≡ rowBytes l → i * rowBytes l + rowBytes l ≤ length list → i < rowCount l list

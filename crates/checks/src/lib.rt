@@ -77,7 +77,7 @@ fn row_strays(row: &[u8], n: u8) -> bool
     requires { ⌜ 8 ≤ length (now row) ⌝ }
     ensures { λ r. ⌜ r ≡ leb (2 ^ n) (constraint (length (now (row .entry)) - 8) (number (now (row .entry)))) ⌝ }
 {
-    rows::strays(n, octets::get(&row[..8]))
+    rows::strays(n, words::word(row, 0))
 }
 
 pub fn first_stray(n: u8, l: u8, list: &[u8]) -> Stray

@@ -1,5 +1,5 @@
 -- Bytes in four words: what agreement is tested on. No contract of a public function cites it.
-use Prim.Native.Nat.{min, _-_, ℕ}
+use Prim.Native.Nat.{ℕ, _-_, min}
 use mathlib.Core.Bool.{Bool, _&&_}
 use mathlib.Core.List.{List}
 use lib.Dec.{eqb}

@@ -1,6 +1,6 @@
 // Rows and pages: what crosses between two phones.
 ghost use mathlib.Core.Path.{_≡_};
-ghost use Prim.Native.Nat.{_/_, _^_, _≤_, _<_};
+ghost use Prim.Native.Nat.{_/_, _%_, _^_, _≤_, _<_};
 ghost use lib.Dec.{eqb};
 ghost use lib.ListN.{length};
 ghost use Rattle.octets.specs.Octets.{number, bytes, xorBytes};
@@ -191,6 +191,18 @@ fn is_short_sum(page: &[u8], payload: &[u8], names: u64) -> bool
     left >> (8 * (8 - l)) == 0
 }
 
+// The bits of names that stand for symbols of l bytes of a page of so many. To divide takes longer than a short sum, so it is done only where
+// a bit stands for no symbol.
+fn of_page(names: u64, l: usize, page: usize) -> u64
+    requires { ⌜ (0 < l) × (l ≤ 32) ⌝ }
+    ensures { λ r. ⌜ r ≡ names % 2 ^ (page / l) ⌝ }
+{
+    if (words::top(names) + 1) * l <= page {
+        return names;
+    }
+    words::low(names, page / l)
+}
+
 // Whether a row agrees with a page, whose symbols are as long as the row's payload.
 pub fn agrees(page: &[u8], row: &[u8]) -> bool
     ensures { λ r. ⌜ r ≡ bytesAgree (now (page .entry)) (now (row .entry)) ⌝ }
@@ -202,7 +214,7 @@ pub fn agrees(page: &[u8], row: &[u8]) -> bool
     if 40 < size {
         return false;
     }
-    let names = words::low(words::word(row, 0), page.len() / (size - 8));
+    let names = of_page(words::word(row, 0), size - 8, page.len());
     if 16 <= size {
         return is_long_sum(page, &row[8..], names);
     }

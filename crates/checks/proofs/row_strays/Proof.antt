@@ -1,22 +1,17 @@
--- `checks::row_strays` meets its contract: the first eight bytes of a row are its constraint.
+-- `checks::row_strays` meets its contract: the first word of a row is its constraint.
 -- Assumes nothing.
 use mathlib.Core.Path.{ap, _∙_}
 use Prim.Native.Nat.{ℕ, _^_}
-use native.Mathlib.Omega.{arith}
 use borrow.Author.Needs.{needs}
 use lib.Dec.{leb}
-use lib.ListN.{length-take}
 use Rattle.octets.proofs.Runs.{known-below}
 use Rattle.rows.specs.Make.{stray}
 use Rattle.checks.proofs.Straying.{constraint-word}
 use Rattle.checks.proofs.row_strays.Statement.{statement}
 use Rattle.checks.proofs.row_strays.Tie as tie
 
-slice-aggregate-get : tie.Need-slice-aggregate-get
-slice-aggregate-get c = simp length-take (omega arith)
-
-get-requires : tie.Need-get-requires
-get-requires c κs = search needs
+word-requires : tie.Need-word-requires
+word-requires c κs = search needs
 
 strays-requires : tie.Need-strays-requires
 strays-requires c κs = search needs
@@ -24,9 +19,9 @@ strays-requires c κs = search needs
 returns : tie.Need-returns
 unfolding stray
 returns c =
-    let S = c .before .before .before .before in
-    let word = constraint-word (S .args .row .now) (S .pre) (known-below (S .args .row .now) (c .before .before .before .shared-slice-known .given)) in
-    c .strays .ensures ∙ ap (λ (x : ℕ). leb (2 ^ S .args .n) x) (c .before .get .ensures ∙ word)
+    let S = c .before .before .before in
+    let word = constraint-word (S .args .row .now) (S .pre) (known-below (S .args .row .now) (c .before .before .shared-slice-known .given)) in
+    c .strays .ensures ∙ ap (λ (x : ℕ). leb (2 ^ S .args .n) x) (c .before .word .ensures ∙ word)
 
 pub row-strays-spec : {M : Type 1} → statement M
-row-strays-spec = tie.close (tie.spec slice-aggregate-get get-requires strays-requires returns)
+row-strays-spec = tie.close (tie.spec word-requires strays-requires returns)

@@ -36,14 +36,11 @@ returns-2 c =
 word-requires : tie.Need-word-requires
 word-requires c κs = tt
 
-sub-low : tie.Need-sub-low
-sub-low c = search needs
+sub-of-page : tie.Need-sub-of-page
+sub-of-page c = search needs
 
-div-low : tie.Need-div-low
-div-low c = search needs
-
-low-requires : tie.Need-low-requires
-low-requires c κs = tt
+of-page-requires : tie.Need-of-page-requires
+of-page-requires c κs = (omega arith, omega arith)
 
 -- the row agrees where its payload is the sum that its first word names
 module _ (page row : List ℕ) (b : Below 256 row) (low : 9 ≤ length row) (high : length row ≤ 40) where
@@ -65,7 +62,7 @@ part-is-long-sum-end c = search needs
 is-long-sum-requires : tie.Need-is-long-sum-requires
 is-long-sum-requires c κs =
     let row = now (c .before .before .before .before .before .before .before .before .args .row) in
-    rw (part-to-end row 8, length-drop 8 row, c .before .before .low .ensures) (omega arith, omega arith, mod-lt _ (pow-pos _))
+    rw (part-to-end row 8, length-drop 8 row, c .before .before .of-page .ensures) (omega arith, omega arith, mod-lt _ (pow-pos _))
 
 returns-3 : tie.Need-returns-3
 returns-3 c =
@@ -73,7 +70,7 @@ returns-3 c =
     let row = now (A .row) in
     let known : Below 256 row = known-below row (c .before .before .before .before .before .before .before .shared-slice-known2 .given) in
     c .is-long-sum .ensures
-    ∙ rw (part-to-end row 8, length-drop 8 row, c .before .before .before .low .ensures, c .before .before .before .before .word .ensures)
+    ∙ rw (part-to-end row 8, length-drop 8 row, c .before .before .before .of-page .ensures, c .before .before .before .before .word .ensures)
     (sum-agrees (now (A .page)) row known (omega arith) (omega arith))
 
 sub-is-short-sum : tie.Need-sub-is-short-sum
@@ -88,7 +85,7 @@ part-is-short-sum-end c = search needs
 is-short-sum-requires : tie.Need-is-short-sum-requires
 is-short-sum-requires c κs =
     let row = now (c .before .before .before .before .before .before .before .before .args .row) in
-    rw (part-to-end row 8, length-drop 8 row, c .before .before .low .ensures) (omega arith, omega arith, mod-lt _ (pow-pos _))
+    rw (part-to-end row 8, length-drop 8 row, c .before .before .of-page .ensures) (omega arith, omega arith, mod-lt _ (pow-pos _))
 
 returns-4 : tie.Need-returns-4
 returns-4 c =
@@ -96,7 +93,7 @@ returns-4 c =
     let row = now (A .row) in
     let known : Below 256 row = known-below row (c .before .before .before .before .before .before .before .shared-slice-known2 .given) in
     c .is-short-sum .ensures
-    ∙ rw (part-to-end row 8, length-drop 8 row, c .before .before .before .low .ensures, c .before .before .before .before .word .ensures)
+    ∙ rw (part-to-end row 8, length-drop 8 row, c .before .before .before .of-page .ensures, c .before .before .before .before .word .ensures)
     (sum-agrees (now (A .page)) row known (omega arith) (omega arith))
 
 pub agrees-spec : {M : Type 1} → statement M
@@ -106,9 +103,8 @@ agrees-spec =
     returns
     returns-2
     word-requires
-    sub-low
-    div-low
-    low-requires
+    sub-of-page
+    of-page-requires
     sub-is-long-sum
     part-is-long-sum-start
     part-is-long-sum-end
