@@ -2,13 +2,13 @@
 -- Assumes nothing.
 use mathlib.Core.Path.{_≡_, refl, sym, ap, ap₂, _∙_}
 use Prim.Native.Nat.{ℕ, zero, suc, _+_, _-_, _*_, _/_, _%_, _^_, _≤_, _<_}
-use native.Mathlib.Nat.{zero-mul, one-mul, div-eq-of-lt, pow-suc}
+use native.Mathlib.Nat.{zero-mul, one-mul, mod-lt, div-eq-of-lt, pow-suc}
 use native.Mathlib.Numerals.{add-one}
 use native.Mathlib.Omega.{arith}
 use mathlib.Core.Bool.{Bool, true, false, true≢false}
 use lib.Bits.{bitXor, xor-block, xor-lt}
 use lib.Dec.{eqb}
-use lib.Pow.{high, field, mod-mod-pow}
+use lib.Pow.{pow-pos, split, high, field, mod-mod-pow}
 use mathlib.Core.List.{List, _∷_}
 use native.Mathlib.Decide.{decLt}
 use Rattle.space.specs.Space.{_⊕_}
@@ -19,6 +19,12 @@ use Rattle.basis.specs.Algorithm2.{digit, digits}
 pub record Top (k x : ℕ) : Type 0 where
   pub low : 2 ^ k ≤ x
   pub high : x < 2 ^ suc k
+
+pub top-of : (k x : ℕ) → x / 2 ^ k ≡ 1 → Top k x
+top-of k x e =
+    let parts : 1 * 2 ^ k + x % 2 ^ k ≡ x = rw e at (split x k) in
+    let rest : x % 2 ^ k < 2 ^ k = mod-lt x (pow-pos k) in
+    record { low = omega (arith, one-mul (2 ^ k)); high = omega (arith, one-mul (2 ^ k), pow-suc 2 k) }
 
 rest-of : (k x : ℕ) → Top k x → (r : ℕ) × (x ≡ 1 * 2 ^ k + r) × (r < 2 ^ k)
 rest-of k x h = (x - 2 ^ k, omega (arith, h .low), omega (arith, h .low, h .high, pow-suc 2 k))

@@ -2,7 +2,7 @@
 -- Assumes nothing.
 use mathlib.Core.Path.{_≡_, sym, ap, _∙_}
 use mathlib.Core.List.{List}
-use Prim.Native.Nat.{ℕ, suc, min, _+_, _-_, _*_, _%_, _^_, _≤_, _<_}
+use Prim.Native.Nat.{ℕ, suc, min, _+_, _-_, _*_, _/_, _%_, _^_, _≤_, _<_}
 use native.Mathlib.Nat.{mod-lt, mod-eq-of-lt, lt-of-le-of-lt, lt-of-lt-of-le}
 use native.Mathlib.Omega.{arith}
 use mathlib.Core.Bool.{true, false}
@@ -18,7 +18,7 @@ use Rattle.octets.proofs.Digits.{pow-lt-inv}
 use Rattle.words.proofs.Words.{word-lt, word-⊕}
 use Rattle.octets.proofs.Xors.{addFront-whole}
 use Rattle.basis.specs.Algorithm2.{Pass, digit}
-use Rattle.basis.proofs.Digits.{digit-low, digit-top, digit-mod}
+use Rattle.basis.proofs.Digits.{top-of, tops-⊕, digit-low, digit-top, digit-mod}
 use Rattle.space.specs.Lists.{Below}
 use Rattle.slots.specs.Reducing.{restFrom, slotsOf, Grouped}
 use Rattle.slots.proofs.Fits.{Fits}
@@ -76,6 +76,13 @@ module _ (key w : ℕ) (slots : List ℕ) (fit : Fits key w (length slots)) (byt
 
     high : x < 2 ^ suc b
     high = rw first (highest-place x some less .2)
+
+    -- a slot's word without a digit before this one
+    pub turn-top : (y : ℕ) → y / 2 ^ b ≡ 1 → (digit b y ≡ true) × (bitXor x y % 2 ^ b ≡ bitXor x y)
+    unfolding _⊕_
+    turn-top y e =
+        let both : bitXor x y < 2 ^ b = tops-⊕ b x y (record { low = turn-lower; high = high }) (top-of b y e) in
+        (digit-top b y (top-of b y e), mod-eq-of-lt both)
 
     under : b < G .left
     under = pow-lt-inv b (G .left) (lt-of-le-of-lt turn-lower (rw (G .rest) (mod-lt (wordAt g work) (pow-pos (G .left)))))

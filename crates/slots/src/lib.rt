@@ -18,7 +18,7 @@ pub enum Reduced {
     Misfit,
 }
 
-// What a walk over the slots of 64 places came to: the vector and the place where it ended; or it met a head that is not its slot's.
+// What a walk over the slots of 64 places came to: the vector and the place where it ended; or it met a slot that it can't go on from.
 enum Walk {
     Ended(Vector, usize),
     Astray,
@@ -71,7 +71,8 @@ fn group(work: &mut [u8], slots: &[u8], key: usize, g: usize) -> usize
 }
 
 // The same for a vector of 80 bytes, held in registers. Which slot is next hangs on the word of the last one alone, and a head tells that
-// word before the slot is found. A head is only told: each is held against its slot.
+// word before the slot is found. A head is only told: each is held against its slot. A slot with a digit before its own, as elimination
+// leaves none, leads astray too: without one the sum of both words has the digits that are left, and no other.
 fn walk_on(from: Vector, digits: u64, slots: &[u8], heads: &[u8], key: usize, g: usize) -> Walk
     requires { ⌜ (fits key 80 (length (now slots)) ≡ true) × (g < key) × (length (now heads) ≡ 512) × (digits ≡ wordAt g (bytesOf from)) ⌝ }
     ensures { λ r. ⌜ Walked key (now (slots .entry)) (bytesOf from) g r ⌝ }
@@ -93,11 +94,14 @@ fn walk_on(from: Vector, digits: u64, slots: &[u8], heads: &[u8], key: usize, g:
         if y != words::word(&slots[at..e], g) {
             return Walk::Astray;
         }
-        if !has(y, b) {
+        if y >> b != 1 {
+            if has(y, b) {
+                return Walk::Astray;
+            }
             return Walk::Ended(v, u);
         }
         v = vectors::plus(v, vectors::load(&slots[at..e]));
-        x = behind(x, y, b);
+        x = x ^ y;
     }
     Walk::Ended(v, octets::least(8 * g + 64, end))
 }

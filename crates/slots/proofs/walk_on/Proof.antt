@@ -1,7 +1,7 @@
 -- `walk_on` meets its contract: the vector's bytes are what `group` has in memory, and a head that is followed is its slot's word.
 -- Assumes nothing.
 use mathlib.Core.Path.{_≡_, sym, ap, _∙_}
-use mathlib.Core.Bool.{true}
+use mathlib.Core.Bool.{true, false}
 use mathlib.Core.List.{List}
 use Prim.Native.Nat.{ℕ, _+_, _-_, _*_, _%_, _^_, _≤_, _<_}
 use native.Mathlib.Nat.{mod-lt, add-sub-cancel-left, lt-of-lt-of-le}
@@ -9,7 +9,6 @@ use native.Mathlib.Omega.{arith}
 use lib.Bits.{bitXor}
 use lib.Pow.{pow-pos}
 use lib.ListN.{length, take, drop}
-use borrow.Author.Tests.{not-true, not-false}
 use Rattle.space.specs.Lists.{Below}
 use Rattle.octets.specs.Octets.{addFront}
 use Rattle.octets.proofs.Runs.{known-below, below-parts}
@@ -21,7 +20,7 @@ use Rattle.basis.specs.Algorithm2.{Pass, digit}
 use Rattle.slots.specs.Reducing.{Walked}
 use Rattle.slots.proofs.Fits.{Fits, fits-so, slot-end}
 use Rattle.slots.proofs.Passing.{passFrom, passing-start}
-use Rattle.slots.proofs.Grouping.{Grouping, grouping-start, grouping-end, turn-small, turn-lower, turn-past, turn-room, turn-wide, turn-stop, turn-add, grouped-past, grouped-stop}
+use Rattle.slots.proofs.Grouping.{Grouping, grouping-start, grouping-end, turn-small, turn-lower, turn-top, turn-past, turn-room, turn-wide, turn-stop, turn-add, grouped-past, grouped-stop}
 use Rattle.slots.proofs.walk_on.Statement.{statement}
 use Rattle.slots.proofs.walk_on.Tie as tie
 
@@ -167,29 +166,29 @@ returns-2 : tie.Need-returns-2 Inv-loop μ-loop
 unfolding Walked
 returns-2 c = tt
 
+shr-if3 : tie.Need-shr-if3 Inv-loop μ-loop
+shr-if3 c = small (c .before .before .before .before .before .before)
+
 has-requires : tie.Need-has-requires Inv-loop μ-loop
-has-requires c κs = small (c .before .before .before .before .before .before)
+has-requires c κs = small (c .before .before .before .before .before .before .before)
 
 -- a head that is followed is the slot's word
-head-is : (c : tie.Else2 Inv-loop μ-loop)
-    → c .before .before .before .little .result ≡ wordAt (S (c .before .before .before .before .before .before) .args .g) (slot (c .before .before .before .before .before .before))
-head-is c =
-    let t = c .before .before .before .before .before .before in
-    c .if2 .left ∙ c .before .word .ensures ∙ rw (part-is t (c .before .before .before .before .before .if1 .left))
-
--- what the test of its digit tells
-tested : (c : tie.After-has Inv-loop μ-loop)
-    → c .has .result ≡ digit (c .before .before .before .before .before .before .before .top .result) (wordAt (S (c .before .before .before .before .before .before .before) .args .g) (slot (c .before .before .before .before .before .before .before)))
-tested c = c .has .ensures ∙ ap (digit (c .before .before .before .before .before .before .before .top .result)) (head-is (c .before))
+head-is : (c : tie.Else2 Inv-loop μ-loop) → c .before .before .before .little .result ≡ wordAt (S (c .before .before .before .before .before .before) .args .g) (slot (c .before .before .before .before .before .before))
+head-is c = c .if2 .left ∙ c .before .word .ensures ∙ rw (part-is (c .before .before .before .before .before .before) (c .before .before .before .before .before .if1 .left))
 
 returns-3 : tie.Need-returns-3 Inv-loop μ-loop
 unfolding Walked
-returns-3 c =
-    let t = c .before .before .before .before .before .before .before .before in
-    let h = c .before .before .before .before .before .before .before .if1 .left in
+returns-3 c = tt
+
+returns-4 : tie.Need-returns-4 Inv-loop μ-loop
+unfolding Walked
+returns-4 c =
+    let t = c .before .before .before .before .before .before .before .before .before in
+    let h = c .before .before .before .before .before .before .before .before .if1 .left in
+    let none : digit (t .top .result) (wordAt (S t .args .g) (slot t)) ≡ false =
+    ap (digit (t .top .result)) (sym (head-is (c .before .before .before))) ∙ sym (c .before .has .ensures) ∙ c .if4 .left in
     grouped-stop (S t .args .key) (ss t) (before (S t)) (work t) (S t .args .g) (place t) h (omega (arith, small t))
-    (rw (long (S t)) (turn-stop (S t .args .key) 80 (ss t) (fit (S t)) (known t) (whole t) (S t .args .g) (work t) (x t) (t .before .before .loop .inv) (t .before .loop-test .taken) (t .top .result) (t .top .ensures) h
-    (sym (tested (c .before)) ∙ not-true (c .before .has .result) (c .if3 .taken))))
+    (rw (long (S t)) (turn-stop (S t .args .key) 80 (ss t) (fit (S t)) (known t) (whole t) (S t .args .g) (work t) (x t) (t .before .before .loop .inv) (t .before .loop-test .taken) (t .top .result) (t .top .ensures) h none))
 
 sub-load : tie.Need-sub-load Inv-loop μ-loop
 sub-load c = omega arith
@@ -198,7 +197,7 @@ part-load-start : tie.Need-part-load-start Inv-loop μ-loop
 part-load-start c = omega arith
 
 part-load-end : tie.Need-part-load-end Inv-loop μ-loop
-part-load-end c = room (c .before .before .before .before .before .before .before .before) (c .before .before .before .before .before .before .before .if1 .left)
+part-load-end c = room (c .before .before .before .before .before .before .before) (c .before .before .before .before .before .before .if1 .left)
 
 load-requires : tie.Need-load-requires Inv-loop μ-loop
 load-requires c κs = tt
@@ -206,21 +205,28 @@ load-requires c κs = tt
 plus-requires : tie.Need-plus-requires Inv-loop μ-loop
 plus-requires c κs = tt
 
-behind-requires : tie.Need-behind-requires Inv-loop μ-loop
-behind-requires c κs = small (c .before .before .before .before .before .before .before .before .before .before .before)
+-- the slot has no digit before this one, so the sum has those behind it
+abbrev Top : (c : tie.Else3 Inv-loop μ-loop) → Type 0
+Top c =
+    let t = c .before .before .before .before .before .before .before in
+    (digit (t .top .result) (c .before .before .before .before .little .result) ≡ true) × (bitXor (x t) (c .before .before .before .before .little .result) % 2 ^ t .top .result ≡ bitXor (x t) (c .before .before .before .before .little .result))
+
+top : (c : tie.Else3 Inv-loop μ-loop) → Top c
+top c =
+    let t = c .before .before .before .before .before .before .before in
+    turn-top (S t .args .key) 80 (ss t) (fit (S t)) (known t) (whole t) (S t .args .g) (work t) (x t) (t .before .before .loop .inv) (t .before .loop-test .taken) (t .top .result) (t .top .ensures)
+    (c .before .before .before .before .little .result) (c .if3 .left)
 
 loop-less : tie.Need-loop-less Inv-loop μ-loop
-loop-less c =
-    let t = c .before .before .before .before .before .before .before .before .before .before .before .before in
-    rw (c .behind .ensures) (lt-of-lt-of-le (mod-lt _ (pow-pos (t .top .result))) (lower t))
+loop-less c = let t = c .before .before .before .before .before .before .before .before .before .before in lt-of-lt-of-le (rw (top (c .before .before .before) .1) at (mod-lt (bitXor (x t) (c .before .before .before .before .before .before .before .little .result)) (pow-pos (t .top .result)))) (lower t)
 
 loop-again : tie.Need-loop-again Inv-loop μ-loop
 loop-again c =
-    let has = c .before .before .before .before .before in
-    let t = has .before .before .before .before .before .before .before in
-    let h = has .before .before .before .before .before .before .if1 .left in
-    rw (c .behind .ensures, head-is (has .before), c .before .plus .ensures, c .before .before .load .ensures)
-    (rw (part-is t h, added t h) (more t h (sym (tested has) ∙ not-false (has .has .result) (c .before .before .before .before .if3 .left))))
+    let t = c .before .before .before .before .before .before .before .before .before .before in
+    let h = c .before .before .before .before .before .before .before .before .before .if1 .left in
+    let T = top (c .before .before .before) in
+    let is = head-is (c .before .before .before .before) in
+    rw (sym (T .1), is, c .plus .ensures, c .before .load .ensures) (rw (part-is t h, added t h) (more t h (rw is at (T .0))))
 
 mul-least : tie.Need-mul-least Inv-loop μ-loop
 mul-least c = omega (arith, fit (c .before .before .before .before), c .before .before .before .before .pre .1)
@@ -231,9 +237,9 @@ add-least c = omega (arith, fit (c .before .before .before .before), c .before .
 least-requires : tie.Need-least-requires Inv-loop μ-loop
 least-requires c κs = tt
 
-returns-4 : tie.Need-returns-4 Inv-loop μ-loop
+returns-5 : tie.Need-returns-5 Inv-loop μ-loop
 unfolding Walked
-returns-4 c =
+returns-5 c =
     let S = c .before .before .before .before .before in
     let l = c .before .before .loop in
     grouped-past (S .args .key) (S .args .slots .now) (before S) (bytesOf (l .v)) (S .args .g) (c .least .result) (omega (arith, fit S .inside, long S))
@@ -266,17 +272,18 @@ walk-on-spec =
     part-word-end
     word-requires
     returns-2
+    shr-if3
     has-requires
     returns-3
+    returns-4
     sub-load
     part-load-start
     part-load-end
     load-requires
     plus-requires
-    behind-requires
     loop-less
     loop-again
     mul-least
     add-least
     least-requires
-    returns-4)
+    returns-5)
