@@ -18,7 +18,7 @@ fn count(l: usize, list: &[u8], page: &[u8]) -> usize
     let mut i = 0;
     while i < rows {
         let end = at + w;
-        sum += rows::agrees(page, &list[at..end]) as usize;
+        sum += agree::agrees(page, &list[at..end]) as usize;
         at = end;
         i += 1;
     }

@@ -50,7 +50,7 @@ fn place(list: &mut [u8], k: usize, page: &[u8], row: &[u8]) -> usize
     requires { ⌜ (k * length (now row) + length (now row) ≤ length (now list)) × (k < length (now list)) ⌝ }
     ensures { λ r. ⌜ gathers r (now (list .exit)) ≡ placed (now (page .entry)) (now (row .entry)) k (now (list .entry)) ⌝ }
 {
-    if rows::agrees(page, row) {
+    if agree::agrees(page, row) {
         return k;
     }
     let w = row.len();

@@ -15,9 +15,9 @@ use lib.Seq.{take-at, drop-at, drop-append-add, take-append-seam, drop-append-se
 use Rattle.space.specs.Lists.{Below}
 use Rattle.octets.specs.Octets.{number, bytes, numbers, flat, over, lay}
 use Rattle.words.specs.Words.{wordAt}
-use Rattle.words.specs.Bits.{lowest}
+use Rattle.bits.specs.Bits.{lowest}
 use Rattle.words.proofs.Words.{word-number}
-use Rattle.words.proofs.Bits.{Lowest, lowest-place, lowest-above}
+use Rattle.bits.proofs.Bits.{Lowest, lowest-place, lowest-above}
 use Rattle.octets.proofs.Digits.{pow-lt-inv}
 use Rattle.octets.proofs.Numbers.{number-bytes-mod, length-bytes}
 use Rattle.octets.proofs.Runs.{length-numbers, length-flat, flat-numbers, numbers-below}

@@ -51,8 +51,8 @@ fn tally_word(uses: &mut [u8], j: usize, names: u64)
 {
     let mut rest = names;
     while 0 < rest {
-        raise(uses, j + words::bottom(rest));
-        rest = words::without_bottom(rest);
+        raise(uses, j + bits::bottom(rest));
+        rest = bits::without_bottom(rest);
     }
 }
 
@@ -65,7 +65,7 @@ fn tally(uses: &mut [u8], tail: &[u8], r: usize)
     let mut i = tail.len();
     while j < r {
         i -= 8;
-        tally_word(uses, j, words::low(words::word(tail, i), r - j));
+        tally_word(uses, j, bits::low(words::word(tail, i), r - j));
         j += 64;
     }
 }

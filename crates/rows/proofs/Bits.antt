@@ -17,8 +17,8 @@ use Rattle.octets.proofs.Runs.{below-parts, getD-numbers}
 use Rattle.octets.proofs.Digits.{bytes-zero, pow-lt-inv}
 use Rattle.octets.proofs.Views.{length-part}
 use Rattle.octets.proofs.Xors.{addFront-whole, length-xorBytes, xorBytes-assoc, xorBytes-zero}
-use Rattle.words.specs.Bits.{lowest}
-use Rattle.words.proofs.Bits.{Lowest, lowest-place, lowest-back}
+use Rattle.bits.specs.Bits.{lowest}
+use Rattle.bits.proofs.Bits.{Lowest, lowest-place, lowest-back}
 use Rattle.rows.specs.Rows.{symbols, named}
 use Rattle.rows.specs.Make.{cut}
 use Rattle.rows.proofs.Sums.{named-⊕, named-unit, named-zero}

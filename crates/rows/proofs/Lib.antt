@@ -6,6 +6,4 @@ pub mod Shape
 pub mod Bits
 pub mod Making
 pub mod Written
-mod Quads
-mod Shorts
 pub mod Settled

@@ -10,8 +10,6 @@ use Rattle.rows.proofs.make.Kinds as make
 use Rattle.rows.proofs.make.Reads as make-contract
 use Rattle.rows.proofs.sum.Kinds as sum
 use Rattle.rows.proofs.sum.Reads as sum-contract
-use Rattle.rows.proofs.agrees.Kinds as agrees
-use Rattle.rows.proofs.agrees.Reads as agrees-contract
 
 -- A function that lends nothing and answers one value.
 answer-only : {A : Type 0} {x y : A} → x ≡ y → _≡_ {A = A × (Unit {0} × (Unit {0} × Unit {0}))} (x, (tt, (tt, tt))) (y, (tt, (tt, tt)))
@@ -28,6 +26,3 @@ make-settled κs args = unique (λ o is. ap₂ (λ answer room. (answer, (tt, (t
 
 pub sum-settled : Settles sum.ps sum.r sum-contract.Post
 sum-settled κs args = unique (λ o is. ap (λ into. (tt, (into, (tt, (tt, tt))))) is)
-
-pub agrees-settled : Settles agrees.ps agrees.r agrees-contract.Post
-agrees-settled κs args = unique (λ o is. answer-only is)

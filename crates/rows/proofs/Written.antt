@@ -5,15 +5,12 @@ use mathlib.Core.Bool.{true}
 use mathlib.Core.List.{List, _++_}
 use Prim.Native.Nat.{ℕ, _+_, _-_, _*_, _%_, _^_, _≤_, _<_}
 use native.Mathlib.Omega.{arith}
-use lib.Dec.{eqb}
-use lib.ListN.{length, drop, length-append}
+use lib.ListN.{length, length-append}
 use borrow.Author.Tests.{le-leb}
 use Rattle.space.specs.Lists.{Below}
 use Rattle.octets.specs.Octets.{number, bytes}
 use Rattle.octets.proofs.Numbers.{length-bytes, number-bytes, bytes-mod}
-use Rattle.octets.proofs.Digits.{bytes-append, number-front, number-back}
-use Rattle.words.specs.Words.{wordAt}
-use Rattle.words.proofs.Words.{word-inside}
+use Rattle.octets.proofs.Digits.{bytes-append}
 use Rattle.rows.specs.Rows.{symbols, rowBytes, constraint, payload, named, agrees, made}
 use Rattle.rows.specs.Make.{rowOf, cut, bytesAgree}
 use Rattle.rows.proofs.Sums.{row-lt}
@@ -52,13 +49,6 @@ module _ (n l : ℕ) (page : List ℕ) (b : Below 256 page) (c : ℕ) where
     rowOf-agrees = rw number-rowOf (made-agrees l (symbols n l page) (symbols-small n l page b) c)
 
 -- ---- agreement in bytes
-
--- by the row's two parts: its last bytes are the sum that its first eight name
-pub agrees-parts : (l : ℕ) (page row : List ℕ) → Below 256 row → length row ≡ rowBytes l
-    → eqb (number (drop 8 row)) (named (cut l page) (wordAt 0 row)) ≡ agrees l (cut l page) (number row)
-unfolding agrees constraint payload
-agrees-parts l page row b e =
-    rw (number-back 8 l row b e, number-front 8 l row b e) (ap (λ (c : ℕ). eqb (number (drop 8 row)) (named (cut l page) c)) (sym (word-inside 0 row (omega arith))))
 
 pub bytesAgree-row : (l : ℕ) (page row : List ℕ) → length row ≡ rowBytes l → 1 ≤ l → l ≤ 32 → bytesAgree page row ≡ agrees l (cut l page) (number row)
 unfolding bytesAgree

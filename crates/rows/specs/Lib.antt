@@ -1,4 +1,3 @@
 pub mod Rows
 pub mod Make
 pub mod Shift
-pub mod Quads

@@ -12,8 +12,8 @@ use lib.ListN.{length, take, drop}
 use Rattle.space.specs.Space.{_⊕_}
 use Rattle.octets.specs.Octets.{number, addFront}
 use Rattle.words.specs.Words.{wordAt}
-use Rattle.words.specs.Bits.{highest}
-use Rattle.words.proofs.Bits.{highest-place}
+use Rattle.bits.specs.Bits.{highest}
+use Rattle.bits.proofs.Bits.{highest-place}
 use Rattle.octets.proofs.Digits.{pow-lt-inv}
 use Rattle.words.proofs.Words.{word-lt, word-⊕}
 use Rattle.octets.proofs.Xors.{addFront-whole}

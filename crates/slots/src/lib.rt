@@ -53,7 +53,7 @@ fn group(work: &mut [u8], slots: &[u8], key: usize, g: usize) -> usize
     let end = 8 * key;
     let mut x = words::word(work, g);
     while 0 < x {
-        let b = words::top(x);
+        let b = bits::top(x);
         let u = 8 * g + 63 - b;
         if end <= u {
             return end;
@@ -81,7 +81,7 @@ fn walk_on(from: Vector, digits: u64, slots: &[u8], heads: &[u8], key: usize, g:
     let mut v = from;
     let mut x = digits;
     while 0 < x {
-        let b = words::top(x);
+        let b = bits::top(x);
         let u = 8 * g + 63 - b;
         if end <= u {
             return Walk::Ended(v, end);

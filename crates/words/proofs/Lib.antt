@@ -1,5 +1,4 @@
 pub mod Shifted
 pub mod Words
 pub mod Littles
-pub mod Bits
 pub mod Settled

@@ -8,14 +8,6 @@ use Rattle.words.proofs.little.Kinds as little
 use Rattle.words.proofs.little.Reads as little-contract
 use Rattle.words.proofs.put_little.Kinds as put-little
 use Rattle.words.proofs.put_little.Reads as put-little-contract
-use Rattle.words.proofs.top.Kinds as top
-use Rattle.words.proofs.top.Reads as top-contract
-use Rattle.words.proofs.bottom.Kinds as bottom
-use Rattle.words.proofs.bottom.Reads as bottom-contract
-use Rattle.words.proofs.without_bottom.Kinds as without-bottom
-use Rattle.words.proofs.without_bottom.Reads as without-bottom-contract
-use Rattle.words.proofs.low.Kinds as low
-use Rattle.words.proofs.low.Reads as low-contract
 
 pub word-settled : Settles word.ps word.r word-contract.Post
 word-settled κs args = unique (λ o is. ap (λ r. (r, (tt, (tt, tt)))) is)
@@ -25,15 +17,3 @@ little-settled κs args = unique (λ o is. ap (λ r. (r, (tt, (tt, tt)))) is)
 
 pub put-little-settled : Settles put-little.ps put-little.r put-little-contract.Post
 put-little-settled κs args = unique (λ o is. ap (λ v. (tt, (v, (tt, tt)))) is)
-
-pub top-settled : Settles top.ps top.r top-contract.Post
-top-settled κs args = unique (λ o is. ap (λ r. (r, (tt, tt))) is)
-
-pub bottom-settled : Settles bottom.ps bottom.r bottom-contract.Post
-bottom-settled κs args = unique (λ o is. ap (λ r. (r, (tt, tt))) is)
-
-pub without-bottom-settled : Settles without-bottom.ps without-bottom.r without-bottom-contract.Post
-without-bottom-settled κs args = unique (λ o is. ap (λ r. (r, (tt, tt))) is)
-
-pub low-settled : Settles low.ps low.r low-contract.Post
-low-settled κs args = unique (λ o is. ap (λ r. (r, (tt, (tt, tt)))) is)

@@ -10,7 +10,7 @@ use lib.ListN.{length, take, drop}
 use denote.Ref.{now}
 use Rattle.octets.specs.Octets.{addFront}
 use Rattle.octets.proofs.Runs.{known-below}
-use Rattle.words.specs.Bits.{lowest}
+use Rattle.bits.specs.Bits.{lowest}
 use Rattle.rows.proofs.Bits.{Adding, adding-start, adding-end, adding-bit, adding-less, symbol-inside, added, length-added, added-zero, added-symbol}
 use Rattle.rows.proofs.add_named.Statement.{statement}
 use Rattle.rows.proofs.add_named.Tie as tie

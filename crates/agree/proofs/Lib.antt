@@ -1,0 +1,3 @@
+mod Quads
+mod Shorts
+pub mod Settled
