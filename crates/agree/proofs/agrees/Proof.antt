@@ -7,7 +7,7 @@ use native.Mathlib.Nat.{mod-lt}
 use native.Mathlib.Omega.{arith}
 use lib.Dec.{eqb}
 use lib.Pow.{pow-pos}
-use lib.ListN.{length, drop, length-drop}
+use lib.ListN.{length, take, drop, length-drop}
 use denote.Ref.{now}
 use borrow.Author.Needs.{needs}
 use borrow.Author.Tests.{le-leb, lt-leb}
@@ -59,6 +59,22 @@ module _ (page row : List ℕ) (b : Below 256 row) (low : 9 ≤ length row) (hig
       ap (eqb (number (drop 8 row))) (named-cut l page (wordAt 0 row)) ∙ agrees-parts l page row b (omega arith)
       ∙ sym (bytesAgree-row l page row (omega arith) (omega arith) (omega arith))
 
+-- and so in the row's bytes behind its first word, as they are lent
+module _ (c : tie.After-of-page) where
+  abbrev row : List ℕ
+  row = now (c .before .before .before .before .before .before .args .row)
+
+  abbrev page : List ℕ
+  page = now (c .before .before .before .before .before .before .args .page)
+
+  abbrev part : List ℕ
+  part = take (length row - 8) (drop 8 row)
+
+  summed : eqb (number part) (named (cut (length part) page) (c .of-page .result)) ≡ bytesAgree page row
+  summed =
+      rw (part-to-end row 8, length-drop 8 row, c .of-page .ensures, c .before .word .ensures)
+      (sum-agrees page row (known-below row (c .before .before .before .before .shared-slice-known2 .given)) (omega arith) (omega arith))
+
 sub-is-long-sum : tie.Need-sub-is-long-sum
 sub-is-long-sum c = search needs
 
@@ -74,13 +90,7 @@ is-long-sum-requires c κs =
     rw (part-to-end row 8, length-drop 8 row, c .before .before .of-page .ensures) (omega arith, omega arith, mod-lt _ (pow-pos _))
 
 returns-3 : tie.Need-returns-3
-returns-3 c =
-    let A = c .before .before .before .before .before .before .before .before .before .args in
-    let row = now (A .row) in
-    let known : Below 256 row = known-below row (c .before .before .before .before .before .before .before .shared-slice-known2 .given) in
-    c .is-long-sum .ensures
-    ∙ rw (part-to-end row 8, length-drop 8 row, c .before .before .before .of-page .ensures, c .before .before .before .before .word .ensures)
-    (sum-agrees (now (A .page)) row known (omega arith) (omega arith))
+returns-3 c = c .is-long-sum .ensures ∙ summed (c .before .before .before)
 
 sub-is-short-sum : tie.Need-sub-is-short-sum
 sub-is-short-sum c = search needs
@@ -97,13 +107,7 @@ is-short-sum-requires c κs =
     rw (part-to-end row 8, length-drop 8 row, c .before .before .of-page .ensures) (omega arith, omega arith, mod-lt _ (pow-pos _))
 
 returns-4 : tie.Need-returns-4
-returns-4 c =
-    let A = c .before .before .before .before .before .before .before .before .before .args in
-    let row = now (A .row) in
-    let known : Below 256 row = known-below row (c .before .before .before .before .before .before .before .shared-slice-known2 .given) in
-    c .is-short-sum .ensures
-    ∙ rw (part-to-end row 8, length-drop 8 row, c .before .before .before .of-page .ensures, c .before .before .before .before .word .ensures)
-    (sum-agrees (now (A .page)) row known (omega arith) (omega arith))
+returns-4 c = c .is-short-sum .ensures ∙ summed (c .before .before .before)
 
 pub agrees-spec : {M : Type 1} → statement M
 agrees-spec =
