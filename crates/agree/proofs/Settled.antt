@@ -1,7 +1,8 @@
 -- The contract of `agrees` settles its answer.
 -- Assumes nothing.
 use mathlib.Core.Path.{ap}
-use Rattle.octets.proofs.Unique.{unique, Settles}
+use Rattle.octets.specs.Settles.{Settles}
+use Rattle.octets.proofs.Unique.{unique}
 use Rattle.agree.proofs.agrees.Kinds as agrees
 use Rattle.agree.proofs.agrees.Reads as agrees-contract
 

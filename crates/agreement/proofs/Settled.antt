@@ -1,7 +1,8 @@
 -- The contract of `agreement::agreement` settles the count.
 -- Assumes nothing.
 use mathlib.Core.Path.{ap}
-use Rattle.octets.proofs.Unique.{unique, Settles}
+use Rattle.octets.specs.Settles.{Settles}
+use Rattle.octets.proofs.Unique.{unique}
 use Rattle.agreement.proofs.agreement.Kinds as agreement
 use Rattle.agreement.proofs.agreement.Reads as agreement-contract
 

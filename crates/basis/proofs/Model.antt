@@ -112,10 +112,13 @@ start-right : (t d : ℕ) → Right t d [] (start d)
 unfolding start uses usesOf kept keptRows otherRows keptAfter select lifted tabulate
 start-right t d = record { size = length-replicate d 0; slots = stand-none t d; uses = refl; kept = refl }
 
--- the kept rows, by arrival, and their uses, by kept place, are the definition's
 pub algorithm2-right : (t d : ℕ) → d ≤ t → (rows : List ℕ) → Below (2 ^ d) rows → Right t d rows (algorithm2 t d rows)
 unfolding algorithm2
 algorithm2-right t d room rows b = steps-right t d room rows [] b (start d) (start-right t d)
+
+-- the kept rows, by arrival, and their uses, by kept place, are the definition's
+pub algorithm2-reads : (t d : ℕ) → d ≤ t → (rows : List ℕ) → Below (2 ^ d) rows → (algorithm2 t d rows .kept ≡ kept rows) × (algorithm2 t d rows .uses ≡ uses rows)
+algorithm2-reads t d room rows b = let R = algorithm2-right t d room rows b in (R .kept, R .uses)
 
 -- one row more is one step more
 steps-snoc : (t row : ℕ) (rows : List ℕ) (s : Working) → steps t (rows ++ (row ∷ [])) s ≡ step t row (steps t rows s)

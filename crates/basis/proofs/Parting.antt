@@ -13,7 +13,8 @@ use borrow.Author.Tests.{le-leb, lt-leb, leb-true, leb-false, not-true}
 use Rattle.space.specs.Lists.{select, marked, count}
 use Rattle.space.proofs.Lists.{map-both}
 use Rattle.reading.specs.Reading.{uses, picked, tie}
-use Rattle.reading.proofs.Pick.{Most, select-true, pick-exactly, pick-only}
+use Rattle.reading.specs.Properties.{Most}
+use Rattle.reading.proofs.Pick.{select-true, pick-exactly, pick-only}
 use Rattle.basis.specs.Algorithm2.{Parting}
 
 -- one above the largest

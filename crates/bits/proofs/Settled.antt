@@ -1,7 +1,8 @@
 -- Each contract of this crate settles the result and every lent byte.
 -- Assumes nothing.
 use mathlib.Core.Path.{ap}
-use Rattle.octets.proofs.Unique.{unique, Settles}
+use Rattle.octets.specs.Settles.{Settles}
+use Rattle.octets.proofs.Unique.{unique}
 use Rattle.bits.proofs.top.Kinds as top
 use Rattle.bits.proofs.top.Reads as top-contract
 use Rattle.bits.proofs.bottom.Kinds as bottom

@@ -1,7 +1,8 @@
 -- Each public contract settles the answers, the numbers and every lent byte.
 -- Assumes nothing.
 use mathlib.Core.Path.{ap}
-use Rattle.octets.proofs.Unique.{unique, Settles}
+use Rattle.octets.specs.Settles.{Settles}
+use Rattle.octets.proofs.Unique.{unique}
 use Rattle.both.specs.Both.{Pair}
 use Rattle.both.proofs.numbers_of.Kinds as numbers-of
 use Rattle.both.proofs.numbers_of.Reads as numbers-of-contract

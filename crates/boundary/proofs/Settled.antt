@@ -1,7 +1,8 @@
 -- Each contract of the boundary settles the result, every number and every lent byte.
 -- Assumes nothing.
 use mathlib.Core.Path.{ap, ap₂}
-use Rattle.octets.proofs.Unique.{unique, Settles}
+use Rattle.octets.specs.Settles.{Settles}
+use Rattle.octets.proofs.Unique.{unique}
 use Rattle.boundary.proofs.mekorvat_read_frame.Kinds as read-frame
 use Rattle.boundary.proofs.mekorvat_read_frame.Reads as read-frame-contract
 use Rattle.boundary.proofs.mekorvat_lay.Kinds as lay

@@ -3,7 +3,8 @@
 use mathlib.Core.Path.{_≡_, refl, sym, ap, _∙_}
 use Prim.Native.Nat.{ℕ}
 use native.Mathlib.Omega.{arith}
-use Rattle.octets.proofs.Unique.{unique, Settles}
+use Rattle.octets.specs.Settles.{Settles}
+use Rattle.octets.proofs.Unique.{unique}
 use Rattle.checks.specs.declared.Stray.{Stray}
 use Rattle.checks.specs.declared.Stray.the-variants.{At, Nowhere}
 use Rattle.checks.specs.Gate.{strayCheck}

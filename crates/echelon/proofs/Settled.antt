@@ -1,7 +1,8 @@
 -- Each contract of this crate's public functions settles the result and every lent byte.
 -- Assumes nothing.
 use mathlib.Core.Path.{ap₂}
-use Rattle.octets.proofs.Unique.{unique, Settles}
+use Rattle.octets.specs.Settles.{Settles}
+use Rattle.octets.proofs.Unique.{unique}
 use Rattle.echelon.proofs.absorb.Kinds as absorb
 use Rattle.echelon.proofs.absorb.Reads as absorb-contract
 use Rattle.echelon.proofs.eliminate.Kinds as eliminate

@@ -6,7 +6,7 @@ use native.Mathlib.Nat.{le-of-eq}
 use native.Mathlib.Omega.{arith}
 use mathlib.Core.Bool.{Bool, true, false, not, false≢true}
 use mathlib.Core.List.{List, [], _∷_}
-use lib.Dec.{eqb, ltb}
+use lib.Dec.{ltb}
 use lib.ListN.{length, drop, length-drop}
 use lib.Seq.{length-take-le}
 use types.Run.{OneOf, miss}
@@ -20,14 +20,10 @@ use Rattle.frame.specs.declared.fields.Field.the-variants as field
 use Rattle.frame.specs.declared.Frame.the-variants as frames
 use Rattle.frame.specs.Layout.{pageAt, shapeAt, seedAt, payloadAt, frameLength, value}
 use Rattle.frame.specs.Reading.{fieldOf, placed, expected, behind, first, nOf, lOf, second, third, ended, fourth, good, fromShape, reading}
-use Rattle.frame.specs.Numbers.{numbersOf, refused, numberOf, placeOf, payloadOf}
+use Rattle.frame.specs.Numbers.{numbersOf, refused, numberOf, isGood, placeOf, payloadOf}
 use Rattle.frame.proofs.Frame.{the-type}
 use Rattle.frame.proofs.Tests.{passes}
 use Rattle.frame.proofs.Whole.{Whole, whole, whole-found}
-
--- "A good reading gives number 0".
-abbrev pub isGood : Frame → Bool
-isGood f = eqb (numberOf f) 0
 
 -- the answers that code takes for a refusal
 pub refused-is : (f : Frame) → OneOf (1 ∷ 2 ∷ 3 ∷ 4 ∷ 5 ∷ []) (tagOf the-type f)

@@ -1,7 +1,9 @@
 -- Document 01's number, place and values for each answer of reading a frame, and the payload that goes with it: the part of l bytes at the
 -- offset.
 use Prim.Native.Nat.{ℕ, _+_}
+use mathlib.Core.Bool.{Bool}
 use mathlib.Core.List.{List}
+use lib.Dec.{eqb}
 use lib.ListN.{take, drop}
 use Rattle.frame.specs.declared.Frame.{Frame}
 use Rattle.frame.specs.declared.Frame.the-variants.{Good, Short, WrongTag, WrongLength, OutOfRange, Trailing}
@@ -24,6 +26,10 @@ numbersOf (Trailing place) = refused 15 place
 
 abbrev pub numberOf : Frame → ℕ
 numberOf f = numbersOf f .number
+
+-- Whether a frame was read right: "A good reading gives number 0".
+abbrev pub isGood : Frame → Bool
+isGood f = eqb (numberOf f) 0
 
 abbrev pub placeOf : Frame → ℕ
 placeOf f = numbersOf f .place

@@ -16,10 +16,9 @@ use Rattle.frame.specs.declared.Frame.{Frame}
 use Rattle.frame.specs.declared.Frame.the-variants as good
 use Rattle.laying.specs.declared.Laid.{Laid}
 use Rattle.frame.specs.Reading.{reading}
-use Rattle.frame.specs.Numbers.{numbersOf, payloadOf}
+use Rattle.frame.specs.Numbers.{numbersOf, isGood, payloadOf}
 use Rattle.frame.specs.Numbers as frames
 use Rattle.laying.specs.Laying.{numberOf, samePage, placing, laid, frameRow, listAfter}
-use Rattle.frame.proofs.Good.{isGood}
 
 -- ---- the place
 

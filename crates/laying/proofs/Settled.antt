@@ -3,7 +3,8 @@
 use mathlib.Core.Path.{ap}
 use Prim.Native.Nat.{_*_}
 use denote.Ref.{now}
-use Rattle.octets.proofs.Unique.{unique, decided, Settles}
+use Rattle.octets.specs.Settles.{Settles}
+use Rattle.octets.proofs.Unique.{unique, decided}
 use Rattle.rows.specs.Rows.{rowBytes}
 use Rattle.laying.specs.Laying.{listAfter, frameRow}
 use Rattle.laying.proofs.lay.Kinds as lay

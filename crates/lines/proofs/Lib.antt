@@ -1,5 +1,5 @@
 pub mod Settled
 pub mod Takes
-pub mod Sound
+pub mod Readable
 pub mod Order
 pub mod Results

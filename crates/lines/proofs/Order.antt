@@ -11,9 +11,9 @@ use Rattle.frame.specs.declared.Frame.the-variants as frames
 use Rattle.laying.specs.declared.Laid.{Laid}
 use Rattle.laying.specs.declared.Laid.the-variants as laid
 use Rattle.frame.specs.Reading.{reading}
-use Rattle.frame.specs.Numbers.{numberOf, placeOf}
+use Rattle.frame.specs.Numbers.{numberOf, isGood, placeOf}
 use Rattle.laying.specs.Laying as laying
-use Rattle.frame.proofs.Good.{isGood, good-shaped}
+use Rattle.frame.proofs.Good.{good-shaped}
 use Rattle.laying.proofs.Laying.{placing-full, placing-row, laid-other, laid-placing}
 use Rattle.lines.specs.declared.Page.{Page}
 use Rattle.lines.specs.declared.Expected.the-variants.{Nothing, Only}

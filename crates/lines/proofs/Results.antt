@@ -16,16 +16,16 @@ use Rattle.frame.specs.declared.Frame.the-variants as frames
 use Rattle.laying.specs.declared.Laid.{Laid}
 use Rattle.laying.specs.declared.Laid.the-variants as laid
 use Rattle.frame.specs.Reading.{reading}
-use Rattle.frame.specs.Numbers.{numbersOf, numberOf, placeOf}
+use Rattle.frame.specs.Numbers.{numbersOf, numberOf, isGood, placeOf}
 use Rattle.laying.specs.Laying as laying
-use Rattle.frame.proofs.Good.{isGood}
 use Rattle.lines.specs.declared.Page.{Page}
 use Rattle.lines.specs.declared.Sheet.{Sheet}
 use Rattle.lines.specs.declared.Line.{Line}
 use Rattle.lines.specs.declared.Line.the-variants.{Row, Refused}
 use Rattle.text.specs.Hex.{pairs, bad}
 use Rattle.lines.specs.Taking.{gives, result, expecting, pageOf, layOn, takeFrame, takeLine}
-use Rattle.lines.proofs.Sound.{Sound, expecting-shaped, good-page}
+use Rattle.lines.specs.Readable.{Readable}
+use Rattle.lines.proofs.Readable.{expecting-shaped, good-page}
 
 unfoldable pub listed : Line → Bool
 listed Row = true
@@ -68,7 +68,7 @@ module _ (list : List ℕ) (room : 20480 ≤ length list) where
       go true = placing-listed (page .n) (page .l) rows s
       go false = refl
 
-  frame-listed : (frame : List ℕ) (sheet : Sheet) → Sound sheet → listed (takeFrame frame sheet list .taken .line) ≡ true
+  frame-listed : (frame : List ℕ) (sheet : Sheet) → Readable sheet → listed (takeFrame frame sheet list .taken .line) ≡ true
   unfolding takeFrame
   frame-listed frame sheet s = go (isGood (reading frame)) refl
     where
@@ -80,7 +80,7 @@ module _ (list : List ℕ) (room : 20480 ≤ length list) where
       go true e = lay-listed expected frame (sheet .rows) (expecting-shaped (sheet .expected) (pageOf (reading frame)) (s .shaped) (good-page frame e)) e
       go false e = refusal-listed (reading frame) e
 
-  pub take-listed : (line : List ℕ) (sheet : Sheet) → Sound sheet → listed (takeLine line sheet list .taken .line) ≡ true
+  pub take-listed : (line : List ℕ) (sheet : Sheet) → Readable sheet → listed (takeLine line sheet list .taken .line) ≡ true
   unfolding takeLine listed
   take-listed line sheet s = go (bad line)
     where

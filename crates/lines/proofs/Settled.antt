@@ -1,7 +1,8 @@
 -- The contract of `lines::take` settles the result and every lent byte.
 -- Assumes nothing.
 use mathlib.Core.Path.{ap₂}
-use Rattle.octets.proofs.Unique.{unique, Settles}
+use Rattle.octets.specs.Settles.{Settles}
+use Rattle.octets.proofs.Unique.{unique}
 use Rattle.lines.proofs.take.Kinds as take
 use Rattle.lines.proofs.take.Reads as take-contract
 

@@ -14,9 +14,8 @@ use Rattle.frame.specs.declared.Frame.the-variants as frames
 use Rattle.laying.specs.declared.Laid.{Laid}
 use Rattle.laying.specs.declared.Laid.the-variants as laid
 use Rattle.frame.specs.Reading.{reading}
-use Rattle.frame.specs.Numbers.{numbersOf, numberOf, placeOf}
+use Rattle.frame.specs.Numbers.{numbersOf, numberOf, isGood, placeOf}
 use Rattle.laying.specs.Laying as laying
-use Rattle.frame.proofs.Good.{isGood}
 use Rattle.lines.specs.declared.Page.{Page}
 use Rattle.lines.specs.declared.Expected.the-variants.{Only}
 use Rattle.lines.specs.declared.Sheet.{Sheet}

@@ -1,7 +1,8 @@
 -- Each contract of this crate settles the result and every lent byte.
 -- Assumes nothing.
 use mathlib.Core.Path.{ap}
-use Rattle.octets.proofs.Unique.{unique, Settles}
+use Rattle.octets.specs.Settles.{Settles}
+use Rattle.octets.proofs.Unique.{unique}
 use Rattle.octets.proofs.add.Kinds as add
 use Rattle.octets.proofs.add.Reads as add-contract
 use Rattle.octets.proofs.clear.Kinds as clear

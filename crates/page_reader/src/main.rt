@@ -2,7 +2,7 @@
 // lines::take decides what a line gives, and reader::read_list what the rows give. Here the input is split and the answers are printed.
 ghost use Prim.Native.Nat.{_+_, _*_, _≤_};
 ghost use lib.ListN.{length};
-ghost use Rattle.lines.proofs.Sound.{Sound};
+ghost use Rattle.lines.specs.Readable.{Readable};
 ghost use Rattle.page_reader.specs.Scanning.{Ready};
 
 mod print;
@@ -110,7 +110,7 @@ fn read_all(scan: Scan, line: &mut [u8], list: &mut [u8]) -> Scan
 // "the last line may lack its newline, and nothing after a last newline is no line."
 fn end_input(scan: Scan, line: &[u8], list: &mut [u8]) -> Sheet
     requires { ⌜ Ready scan (length (now line)) ⌝ }
-    ensures { λ r. ⌜ Sound r ⌝ }
+    ensures { λ r. ⌜ Readable r ⌝ }
 {
     let kept = scan.kept;
     if kept == 0 {
@@ -150,7 +150,7 @@ fn read_rows(page: Page, rows: usize, list: &[u8])
 }
 
 fn report(sheet: Sheet, list: &[u8])
-    requires { ⌜ Sound sheet ⌝ }
+    requires { ⌜ Readable sheet ⌝ }
     requires { ⌜ 20480 ≤ length (now list) ⌝ }
 {
     let expected = sheet.expected;

@@ -1,7 +1,8 @@
 -- Each public contract settles the answer and every byte lent to be written.
 -- Assumes nothing.
 use mathlib.Core.Path.{ap}
-use Rattle.octets.proofs.Unique.{unique, Settles}
+use Rattle.octets.specs.Settles.{Settles}
+use Rattle.octets.proofs.Unique.{unique}
 use Rattle.reading.specs.Outcome.{Outcome}
 use Rattle.pairs.proofs.put_marks.Kinds as put-marks
 use Rattle.pairs.proofs.put_marks.Reads as put-marks-contract

@@ -1,9 +1,10 @@
 -- The contract of `reader::read_list` settles the answer and every lent byte, so what the demands say of the reading they say of each call.
 -- Assumes nothing.
 use mathlib.Core.Path.{ap}
-use Rattle.octets.proofs.Unique as all
+use Rattle.octets.specs.Settles.{Settles}
+use Rattle.octets.proofs.Unique.{unique}
 use Rattle.reader.proofs.read_list.Kinds as read-list
 use Rattle.reader.proofs.read_list.Reads as promised
 
-pub read-list-settled : all.Settles read-list.ps read-list.r promised.Post
-read-list-settled κs args = all.unique (λ o is. ap (λ x. (x .answer, (tt, (tt, (tt, (x .lent .page, (x .lent .uses, (x .lent .roles, (x .lent .scratch, tt))))))))) is)
+pub read-list-settled : Settles read-list.ps read-list.r promised.Post
+read-list-settled κs args = unique (λ o is. ap (λ x. (x .answer, (tt, (tt, (tt, (x .lent .page, (x .lent .uses, (x .lent .roles, (x .lent .scratch, tt))))))))) is)

@@ -7,7 +7,7 @@ use lib.ListN.{length}
 use Rattle.space.specs.Lists.{Below}
 use Rattle.octets.specs.Octets.{flat, over}
 use Rattle.rows.specs.Rows.{rowsOf, constraint}
-use Rattle.rows.proofs.Shape.{InRange}
+use Rattle.rows.specs.Range.{InRange}
 use Rattle.reading.specs.declared.Answer.{Answer}
 use Rattle.reading.specs.declared.Answer.the-variants as answer
 use Rattle.reading.specs.Reading.{pickedRows, pageOf, agreement, tie, singular}

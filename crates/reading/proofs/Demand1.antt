@@ -1,42 +1,20 @@
 -- Demand 1, of the outcome: "a refused call writes nothing, except that the three refusals after elimination fill the marks and clear the
 -- scratch." The numbers 1 to 4 come of the checks and the numbers 5, 6, 7 and 0 of a reading, by cases.
 -- Assumes nothing.
-use mathlib.Core.Path.{_≡_, refl}
+use mathlib.Core.Path.{refl}
 use Prim.Native.Nat.{ℕ, suc, _^_, _≤_}
 use native.Mathlib.Omega.{arith}
-use mathlib.Core.Bool.{Bool, true, false, cond, not, _||_}
+use mathlib.Core.Bool.{Bool, true, false, cond, not}
 use mathlib.Core.List.{List, [], _∷_}
 use mathlib.Core.Logic.{_⊎_, inl, inr}
-use lib.Dec.{eqb, leb}
-use Rattle.octets.specs.Octets.{over}
+use lib.Dec.{leb}
 use Rattle.octets.proofs.Runs.{over-none}
 use Rattle.rows.specs.Rows.{shape, rowCount, rowsOf, constraint}
 use Rattle.reading.specs.declared.Answer.the-variants as answer
 use Rattle.reading.specs.Answer.{numbersOf}
 use Rattle.reading.specs.Reading.{rank, few, tie, singular}
-use Rattle.reading.specs.Outcome.{Lent, Outcome, Check, passes, refuses, wholeRows, roomy, strayFrom, checks, usesMarks, rolesMarks, zeros, ended, solved, read, after, outcome, plain, telling}
-
-abbrev number : Outcome → ℕ
-number o = numbersOf (o .answer) .number
-
--- "Numbers 1 to 4 write nothing."
-pub record Early (lent : Lent) (o : Outcome) : Type 0 where
-  pub positive : 1 ≤ number o
-  pub small : number o ≤ 4
-  pub nothing : o .lent ≡ lent
-
--- "no 2 under 5 and 6"
-abbrev pub roleUnder : ℕ → Bool → ℕ
-roleUnder number = cond (eqb number 5 || eqb number 6) plain telling
-
--- "Numbers 5, 6, 7 and 0 write the first m uses .. and the first m roles .. They set the first 32,768 scratch bytes to zero. Only 0 writes
--- the page".
-pub record Late (n : ℕ) (rows : List ℕ) (lent : Lent) (o : Outcome) : Type 0 where
-  pub numbered : 1 ≤ number o → (5 ≤ number o) × (number o ≤ 7)
-  pub uses : o .lent .uses ≡ over (usesMarks rows) (lent .uses)
-  pub roles : o .lent .roles ≡ over (rolesMarks (roleUnder (number o)) n rows) (lent .roles)
-  pub scratch : o .lent .scratch ≡ over zeros (lent .scratch)
-  pub page : 1 ≤ number o → o .lent .page ≡ lent .page
+use Rattle.reading.specs.Outcome.{Lent, Outcome, Check, passes, refuses, wholeRows, roomy, strayFrom, checks, ended, solved, read, after, outcome, plain, telling}
+use Rattle.reading.specs.Writes.{Early, Late}
 
 -- ---- the checks
 

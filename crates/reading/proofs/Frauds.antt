@@ -18,17 +18,9 @@ use Rattle.reading.specs.Answer.{numbersOf}
 use Rattle.reading.specs.Outcome.{Lent, Outcome, outcome, roomy, gave}
 use Rattle.reading.specs.Added.{added}
 use Rattle.reading.specs.Worked.{Case, k2, k4, k7, cases, listOf, Seen, seen, expected}
-use Rattle.reading.specs.Frauds.{Reader, withAnswer, withPage, withUses, ranked, agreeing, refusesAll, doesNothing, fixedPage, firstRow, inventsUses, inventsRank, inventsAgreement}
+use Rattle.reading.specs.Frauds.{Reader, Differs, KeepsShift, withAnswer, withPage, withUses, ranked, agreeing, refusesAll, doesNothing, fixedPage, firstRow, inventsUses, inventsRank, inventsAgreement}
 use Rattle.reading.proofs.Checks.{Fits, roomy-fits, fits-roomy}
 use Rattle.reading.proofs.Worked.{worked}
-
--- a reader differs from the reading at a case
-abbrev pub Differs : Reader → Case → Type 0
-Differs reader c = (lent : Lent) → roomy (c .n) 1 (length (c .rows)) lent ≡ true → reader (c .n) 1 (listOf c) lent ≡ outcome (c .n) 1 (listOf c) lent → ⊥
-
--- a reader keeps demand 3's law
-abbrev pub KeepsShift : Reader → Type 0
-KeepsShift reader = (n l : ℕ) (list : List ℕ) (lent : Lent) (second : List ℕ) → reader n l (shiftedList l (symbols n l second) list) lent ≡ added second (reader n l list lent)
 
 in-k2 : List·Memᴰ k2 cases
 in-k2 = List·Memᴰ·tail (List·Memᴰ·head refl)

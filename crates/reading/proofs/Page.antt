@@ -20,6 +20,7 @@ use Rattle.rows.specs.Rows.{constraint, payload, named, agrees}
 use Rattle.rows.proofs.Sums.{named-⊕, named-unit, named-bits, payload-lt}
 use Rattle.rows.proofs.Pages.{all-payloads, agree-independent}
 use Rattle.reading.specs.Reading.{symbol, pageOf, pickedRows, tie}
+use Rattle.reading.specs.Properties.{Agreed}
 use Rattle.reading.proofs.Pick.{picked-size, picked-independent, picked-inside}
 
 module _ (n l : ℕ) (ps : List ℕ) (inside : Below (2 ^ n) (map (constraint l) ps)) (free : independent (map (constraint l) ps) ≡ true) (size : length ps ≡ n) where
@@ -77,12 +78,6 @@ pub pageOf-below : (n l : ℕ) (ps : List ℕ) → Below (2 ^ (8 * l)) (pageOf n
 unfolding pageOf symbol
 pageOf-below n l ps =
     tabulate-below (2 ^ (8 * l)) n (symbol l ps) (λ k. sum-lt (8 * l) (map (payload l) ps) (below-map (2 ^ (8 * l)) (payload l) (payload-lt l) ps) (setOf (map (constraint l) ps) (2 ^ k)))
-
--- a page of n symbols of l bytes that every one of some rows agrees with
-pub record Agreed (n l : ℕ) (rows page : List ℕ) : Type 0 where
-  pub size : length page ≡ n
-  pub symbols : Below (2 ^ (8 * l)) page
-  pub all : All (agrees l page) rows
 
 -- "It exists and is unique exactly when the n picked constraints are independent."
 module _ (n l : ℕ) (rows : List ℕ) (inside : Below (2 ^ n) (map (constraint l) rows)) (none : tie n rows ≡ false) where

@@ -18,14 +18,10 @@ use Rattle.space.proofs.Lists.{select-map, select-below, select-every, marked-e
 use Rattle.space.proofs.Sets.{select-independent}
 use Rattle.rows.specs.Rows.{constraint}
 use Rattle.reading.specs.Reading.{kept, keptRows, rank, usesOf, uses, picks, picked, pickedRows, few, tie}
+use Rattle.reading.specs.Properties.{Most}
 use Rattle.reading.proofs.Kept.{kept-independent}
 
 -- ---- a choice of n with more uses than any left out
-
-pub record Most (n : ℕ) (us : List ℕ) (pick : List Bool) : Type 0 where
-  pub size : length pick ≡ length us
-  pub number : marked pick ≡ n
-  pub above : (x y : ℕ) → List·Memᴰ x (select pick us) → List·Memᴰ y (select (map not pick) us) → y < x
 
 -- those that pass a test, and those that do not
 pub select-true : (f : ℕ → Bool) (us : List ℕ) (x : ℕ) → List·Memᴰ x (select (map f us) us) → f x ≡ true

@@ -1,7 +1,8 @@
 -- The contract of `reading::numbers_of` settles its answer.
 -- Assumes nothing.
 use mathlib.Core.Path.{ap}
-use Rattle.octets.proofs.Unique.{unique, Settles}
+use Rattle.octets.specs.Settles.{Settles}
+use Rattle.octets.proofs.Unique.{unique}
 use Rattle.reading.proofs.numbers_of.Kinds as numbers-of
 use Rattle.reading.proofs.numbers_of.Reads as numbers-of-contract
 

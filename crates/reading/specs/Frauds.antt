@@ -1,12 +1,17 @@
 -- The frauds of document 01, "What the contracts settle": each is a reader of the same kind as `outcome`, and must be caught.
 use Prim.Native.Nat.{ℕ}
+use mathlib.Core.Path.{_≡_}
+use mathlib.Core.Bool.{true}
 use mathlib.Core.List.{List}
-use lib.ListN.{take, replicate}
+use lib.ListN.{length, take, replicate}
 use Rattle.octets.specs.Octets.{over}
-use Rattle.rows.specs.Rows.{rowBytes, rowCount}
+use Rattle.rows.specs.Rows.{symbols, rowBytes, rowCount}
+use Rattle.rows.specs.Shift.{shiftedList}
 use Rattle.reading.specs.declared.Answer.{Answer}
 use Rattle.reading.specs.declared.Answer.the-variants as answer
-use Rattle.reading.specs.Outcome.{Lent, Outcome, outcome}
+use Rattle.reading.specs.Outcome.{Lent, Outcome, roomy, outcome}
+use Rattle.reading.specs.Added.{added}
+use Rattle.reading.specs.Worked.{Case, listOf}
 
 abbrev pub Reader : Type 0
 Reader = ℕ → ℕ → List ℕ → Lent → Outcome
@@ -81,3 +86,13 @@ inventsRank n l list lent = withAnswer (ranked n) (outcome n l list lent)
 -- "or agreement": every row.
 unfoldable pub inventsAgreement : Reader
 inventsAgreement n l list lent = withAnswer (agreeing (rowCount l list)) (outcome n l list lent)
+
+-- ---- how they are caught
+
+-- A reader differs from the reading at a worked case, whatever is lent that has room.
+abbrev pub Differs : Reader → Case → Type 0
+Differs reader c = (lent : Lent) → roomy (c .n) 1 (length (c .rows)) lent ≡ true → reader (c .n) 1 (listOf c) lent ≡ outcome (c .n) 1 (listOf c) lent → ⊥
+
+-- A reader keeps demand 3's law.
+abbrev pub KeepsShift : Reader → Type 0
+KeepsShift reader = (n l : ℕ) (list : List ℕ) (lent : Lent) (second : List ℕ) → reader n l (shiftedList l (symbols n l second) list) lent ≡ added second (reader n l list lent)

@@ -1,7 +1,9 @@
 pub mod Reading
+pub mod Properties
 pub mod Raised
 pub mod Answer
 pub mod Outcome
+pub mod Writes
 pub mod Added
 pub mod Worked
 pub mod Frauds

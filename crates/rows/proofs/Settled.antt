@@ -1,7 +1,8 @@
 -- Each contract of this crate settles the answer and every lent byte.
 -- Assumes nothing.
 use mathlib.Core.Path.{_≡_, ap, ap₂}
-use Rattle.octets.proofs.Unique.{unique, Settles}
+use Rattle.octets.specs.Settles.{Settles}
+use Rattle.octets.proofs.Unique.{unique}
 use Rattle.rows.proofs.shaped.Kinds as shaped
 use Rattle.rows.proofs.shaped.Reads as shaped-contract
 use Rattle.rows.proofs.strays.Kinds as strays

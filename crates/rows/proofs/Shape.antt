@@ -2,17 +2,12 @@
 -- Assumes nothing.
 use mathlib.Core.Path.{_≡_}
 use mathlib.Core.Bool.{true, _&&_}
-use Prim.Native.Nat.{ℕ, _≤_}
+use Prim.Native.Nat.{ℕ}
 use lib.Dec.{leb}
 use borrow.Author.Tests.{leb-true}
 use Rattle.space.proofs.Both.{both}
 use Rattle.rows.specs.Rows.{shape}
-
-pub record InRange (n l : ℕ) : Type 0 where
-  pub n-low : 1 ≤ n
-  pub n-high : n ≤ 64
-  pub l-low : 1 ≤ l
-  pub l-high : l ≤ 32
+use Rattle.rows.specs.Range.{InRange}
 
 pub shape-range : (n l : ℕ) → shape n l ≡ true → InRange n l
 unfolding shape

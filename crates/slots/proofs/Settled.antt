@@ -1,7 +1,8 @@
 -- The contract of `slots::reduce` settles the result and the vector.
 -- Assumes nothing.
 use mathlib.Core.Path.{ap₂}
-use Rattle.octets.proofs.Unique.{unique, Settles}
+use Rattle.octets.specs.Settles.{Settles}
+use Rattle.octets.proofs.Unique.{unique}
 use Rattle.slots.proofs.reduce.Kinds as reduce
 use Rattle.slots.proofs.reduce.Reads as reduce-contract
 

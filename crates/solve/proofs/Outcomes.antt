@@ -14,7 +14,8 @@ use Rattle.octets.proofs.Lay.{over-back}
 use Rattle.space.proofs.Both.{both}
 use Rattle.rows.specs.Rows.{shape, rowCount}
 use Rattle.reading.specs.Outcome.{wholeRows}
-use Rattle.rows.proofs.Shape.{InRange, shape-range}
+use Rattle.rows.specs.Range.{InRange}
+use Rattle.rows.proofs.Shape.{shape-range}
 use Rattle.solve.specs.declared.Solved.{Solved}
 use Rattle.solve.specs.declared.Solved.the-variants.{Page, Singular, Misfit}
 use Rattle.solve.specs.Solve.{filled, slotBytes, fits, solveAnswer, solvePage, solveSlots}

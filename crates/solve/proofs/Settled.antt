@@ -3,7 +3,8 @@
 use mathlib.Core.Path.{_≡_, ap, _∙_}
 use mathlib.Core.List.{List}
 use Prim.Native.Nat.{ℕ}
-use Rattle.octets.proofs.Unique.{unique, Settles}
+use Rattle.octets.specs.Settles.{Settles}
+use Rattle.octets.proofs.Unique.{unique}
 use Rattle.solve.specs.declared.Solved.{Solved}
 use Rattle.solve.specs.Solve.{solveSlots, solvePage}
 use Rattle.solve.proofs.solve.Kinds as solve

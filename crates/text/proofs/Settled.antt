@@ -1,7 +1,8 @@
 -- Each contract of this crate settles the result and every lent byte.
 -- Assumes nothing.
 use mathlib.Core.Path.{ap₂}
-use Rattle.octets.proofs.Unique.{unique, Settles}
+use Rattle.octets.specs.Settles.{Settles}
+use Rattle.octets.proofs.Unique.{unique}
 use Rattle.text.proofs.unhex.Kinds as unhex
 use Rattle.text.proofs.unhex.Reads as unhex-contract
 use Rattle.text.proofs.spell.Kinds as spell

@@ -1,7 +1,8 @@
 -- Each contract of this crate settles the result and every lent byte.
 -- Assumes nothing.
 use mathlib.Core.Path.{ap}
-use Rattle.octets.proofs.Unique.{unique, Settles}
+use Rattle.octets.specs.Settles.{Settles}
+use Rattle.octets.proofs.Unique.{unique}
 use Rattle.vectors.proofs.load.Kinds as load
 use Rattle.vectors.proofs.load.Reads as load-contract
 use Rattle.vectors.proofs.plus.Kinds as plus

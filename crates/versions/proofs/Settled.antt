@@ -1,7 +1,8 @@
 -- The contract of `versions::read` settles both answers, the number of rows and every lent byte.
 -- Assumes nothing.
 use mathlib.Core.Path.{ap}
-use Rattle.octets.proofs.Unique.{unique, Settles}
+use Rattle.octets.specs.Settles.{Settles}
+use Rattle.octets.proofs.Unique.{unique}
 use Rattle.both.specs.Both.{Pair}
 use Rattle.versions.proofs.read.Kinds as read
 use Rattle.versions.proofs.read.Reads as read-contract

@@ -1,7 +1,8 @@
 -- Each contract of this crate settles the result and every lent byte.
 -- Assumes nothing.
 use mathlib.Core.Path.{ap}
-use Rattle.octets.proofs.Unique.{unique, Settles}
+use Rattle.octets.specs.Settles.{Settles}
+use Rattle.octets.proofs.Unique.{unique}
 use Rattle.words.proofs.word.Kinds as word
 use Rattle.words.proofs.word.Reads as word-contract
 use Rattle.words.proofs.little.Kinds as little

@@ -1,7 +1,8 @@
 -- The contract of `writing::write` settles the answer and every lent byte.
 -- Assumes nothing.
 use denote.Ref.{now}
-use Rattle.octets.proofs.Unique.{unique, decided, Settles}
+use Rattle.octets.specs.Settles.{Settles}
+use Rattle.octets.proofs.Unique.{unique, decided}
 use Rattle.writing.specs.Writing.{roomAfter, frameOf}
 use Rattle.writing.proofs.write.Kinds as write
 use Rattle.writing.proofs.write.Reads as write-contract

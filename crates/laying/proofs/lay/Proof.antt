@@ -12,9 +12,9 @@ use Rattle.frame.specs.declared.Frame.the-variants.{Good}
 use Rattle.laying.specs.declared.Laid.{Laid}
 use Rattle.laying.specs.declared.Laid.the-variants.{Shape, Refused, OtherPage}
 use Rattle.frame.specs.Reading.{reading}
-use Rattle.frame.specs.Numbers.{numbersOf}
+use Rattle.frame.specs.Numbers.{numbersOf, isGood}
 use Rattle.laying.specs.Laying.{samePage, placing, laid, listAfter}
-use Rattle.frame.proofs.Good.{isGood, refused-is, good-payload}
+use Rattle.frame.proofs.Good.{refused-is, good-payload}
 use Rattle.laying.proofs.Laying.{laid-shape, laid-refused, laid-other, laid-placing, row-is}
 use Rattle.laying.proofs.lay.Statement.{statement}
 use Rattle.laying.proofs.lay.Tie as tie

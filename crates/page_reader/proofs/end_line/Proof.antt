@@ -1,9 +1,9 @@
--- `page_reader::end_line` meets its contract: what is kept is a part of the line, and every line leaves a sound sheet.
+-- `page_reader::end_line` meets its contract: what is kept is a part of the line, and every line leaves a readable sheet.
 -- Assumes nothing.
 use mathlib.Core.Path.{sym}
 use denote.Ref.{now}
 use lib.Seq.{length-take-le}
-use Rattle.lines.proofs.Sound.{take-sound}
+use Rattle.lines.proofs.Readable.{take-readable}
 use native.Mathlib.Omega.{arith}
 use borrow.Author.Needs.{needs}
 use Rattle.page_reader.proofs.end_line.Statement.{statement}
@@ -28,7 +28,7 @@ returns : tie.Need-returns
 returns c =
     let start = c .before .before .before .before .before .before .before .before .before .before in
     let take = c .before .before .before .before .before .take in
-    record { fits = omega arith; sound = rw (take .ensures .0) (take-sound _ (start .args .scan .sheet) (now (start .args .list)) (start .pre .sound)) }
+    record { fits = omega arith; readable = rw (take .ensures .0) (take-readable _ (start .args .scan .sheet) (now (start .args .list)) (start .pre .readable)) }
 
 pub end-line-spec : {M : Type 1} → statement M
 end-line-spec =

@@ -1,9 +1,9 @@
--- `page_reader::report` is safe and ends: the rows of a sound sheet fit into the list, and its page into the room for it.
+-- `page_reader::report` is safe and ends: the rows of a readable sheet fit into the list, and its page into the room for it.
 -- Assumes nothing.
 use mathlib.Core.Path.{sym}
 use native.Mathlib.Nat.{le-trans}
 use lib.Seq.{length-take-le}
-use Rattle.lines.proofs.Sound.{rows-fit, page-fits}
+use Rattle.lines.proofs.Readable.{rows-fit, page-fits}
 use native.Mathlib.Omega.{arith}
 use borrow.Author.Needs.{needs}
 use Rattle.page_reader.proofs.report.Statement.{statement}

@@ -10,9 +10,9 @@ use Rattle.rows.specs.Rows.{shape, rowBytes}
 use Rattle.rows.proofs.Shape.{shape-range}
 use Rattle.frame.specs.declared.Frame.{Frame}
 use Rattle.frame.specs.Reading.{reading, good}
-use Rattle.frame.specs.Numbers.{numbersOf, numberOf, placeOf}
+use Rattle.frame.specs.Numbers.{numbersOf, numberOf, isGood, placeOf}
 use Rattle.laying.specs.Laying as laying
-use Rattle.frame.proofs.Good.{isGood, good-fields, fields-good}
+use Rattle.frame.proofs.Good.{good-fields, fields-good}
 use Rattle.lines.specs.declared.Page.{Page}
 use Rattle.lines.specs.declared.Expected.{Expected}
 use Rattle.lines.specs.declared.Expected.the-variants.{Nothing, Only}
@@ -21,15 +21,8 @@ use Rattle.lines.specs.declared.Line.{Line}
 use Rattle.lines.specs.declared.Line.the-variants.{Row, Refused}
 use Rattle.text.specs.Hex.{pairs, bad}
 use Rattle.lines.specs.Taking.{gives, result, expecting, pageOf, rowsAfter, layOn, takeFrame, takeLine}
+use Rattle.lines.specs.Readable.{InShape, Readable}
 use Rattle.lines.proofs.Takes.{result-row, laid-within}
-
-abbrev pub InShape : Expected → Type 0
-InShape Nothing = Unit {0}
-InShape (Only page) = shape (page .n) (page .l) ≡ true
-
-pub record Sound (sheet : Sheet) : Type 0 where
-  pub few : sheet .rows ≤ 512
-  pub shaped : InShape (sheet .expected)
 
 -- ---- kept by every line
 
@@ -44,10 +37,10 @@ unfolding rowsAfter
 rows-few Row rows h k = let few : rows ≤ 511 = k refl in omega arith
 rows-few (Refused number place) rows h k = h
 
-lay-sound : (page : Page) (frame : List ℕ) (rows : ℕ) (list : List ℕ) → shape (page .n) (page .l) ≡ true → rows ≤ 512
-    → Sound (layOn page frame rows list .taken .sheet)
+lay-readable : (page : Page) (frame : List ℕ) (rows : ℕ) (list : List ℕ) → shape (page .n) (page .l) ≡ true → rows ≤ 512
+    → Readable (layOn page frame rows list .taken .sheet)
 unfolding layOn
-lay-sound page frame rows list s h =
+lay-readable page frame rows list s h =
     let answer = laying.laid frame (page .number) (page .n) (page .l) rows list in
     let number = laying.numberOf answer in
     let place = laying.placeOf answer in
@@ -59,9 +52,9 @@ good-page frame e =
     let fields = good-fields frame e in
     rw (fields-good frame fields) (fields .shaped)
 
-frame-sound : (frame : List ℕ) (sheet : Sheet) (list : List ℕ) → Sound sheet → Sound (takeFrame frame sheet list .taken .sheet)
+frame-readable : (frame : List ℕ) (sheet : Sheet) (list : List ℕ) → Readable sheet → Readable (takeFrame frame sheet list .taken .sheet)
 unfolding takeFrame
-frame-sound frame sheet list s = go (isGood found) refl
+frame-readable frame sheet list s = go (isGood found) refl
   where
     found : Frame
     found = reading frame
@@ -70,29 +63,29 @@ frame-sound frame sheet list s = go (isGood found) refl
     expected = expecting (sheet .expected) (pageOf found)
 
     go : (b : Bool) → isGood found ≡ b
-        → Sound (cond b (layOn expected frame (sheet .rows) list) (gives (Refused (numberOf found) (placeOf found)) sheet list) .taken .sheet)
-    go true e = lay-sound expected frame (sheet .rows) list (expecting-shaped (sheet .expected) (pageOf found) (s .shaped) (good-page frame e)) (s .few)
+        → Readable (cond b (layOn expected frame (sheet .rows) list) (gives (Refused (numberOf found) (placeOf found)) sheet list) .taken .sheet)
+    go true e = lay-readable expected frame (sheet .rows) list (expecting-shaped (sheet .expected) (pageOf found) (s .shaped) (good-page frame e)) (s .few)
     go false e = s
 
-pub take-sound : (line : List ℕ) (sheet : Sheet) (list : List ℕ) → Sound sheet → Sound (takeLine line sheet list .taken .sheet)
+pub take-readable : (line : List ℕ) (sheet : Sheet) (list : List ℕ) → Readable sheet → Readable (takeLine line sheet list .taken .sheet)
 unfolding takeLine
-take-sound line sheet list s = go (bad line)
+take-readable line sheet list s = go (bad line)
   where
-    go : (b : Bool) → Sound (cond b (gives (Refused 17 0) sheet list) (takeFrame (pairs line) sheet list) .taken .sheet)
+    go : (b : Bool) → Readable (cond b (gives (Refused 17 0) sheet list) (takeFrame (pairs line) sheet list) .taken .sheet)
     go true = s
-    go false = frame-sound (pairs line) sheet list s
+    go false = frame-readable (pairs line) sheet list s
 
 -- ---- and what it gives
 
-module _ (sheet : Sheet) (sound : Sound sheet) (page : Page) (is : sheet .expected ≡ Only page) where
+module _ (sheet : Sheet) (able : Readable sheet) (page : Page) (is : sheet .expected ≡ Only page) where
   page-shaped : shape (page .n) (page .l) ≡ true
-  page-shaped = rw is at (sound .shaped)
+  page-shaped = rw is at (able .shaped)
 
   -- the rows fit into a list of 512 rows of 40 bytes
   pub rows-fit : sheet .rows * rowBytes (page .l) ≤ 20480
   rows-fit =
       let narrow : rowBytes (page .l) ≤ 40 = omega (arith, shape-range (page .n) (page .l) page-shaped .l-high) in
-      mul-le-mul (sound .few) narrow
+      mul-le-mul (able .few) narrow
 
   pub page-fits : page .n * page .l ≤ 2048
   page-fits =
