@@ -1,59 +1,138 @@
--- Demand 2 for each reading over its own list: the first is the plain reading of the list, and the second the plain reading of the rows that
--- do not agree with its page. So what is proved of `outcome` is proved of both.
+-- Demand 2 for each reading over its own list: the first is the plain reading of the list, and the second the plain reading of the second
+-- list. So what is proved of `outcome` is proved of both.
 -- Assumes nothing.
-use mathlib.Core.Path.{_≡_, sym, ap, _∙_}
-use Prim.Native.Nat.{ℕ, _≤_}
-use native.Mathlib.Omega.{arith}
-use mathlib.Core.Bool.{true}
+use mathlib.Core.Path.{_≡_, refl, sym, ap, _∙_}
+use Prim.Native.Nat.{ℕ, _*_}
+use mathlib.Core.Bool.{Bool, true, false, cond, true≢false}
 use mathlib.Core.List.{List}
-use lib.ListN.{length, length-replicate}
+use lib.Dec.{eqb}
+use lib.ListN.{length}
 use Rattle.space.specs.Lists.{Below}
-use Rattle.octets.specs.Octets.{flat}
-use Rattle.octets.proofs.Runs.{length-over}
-use Rattle.rows.specs.Rows.{rowBytes, rowCount, rowsOf}
+use Rattle.octets.specs.Octets.{flat, over}
+use Rattle.octets.proofs.Runs.{length-flat, take-over, over-over}
+use Rattle.rows.specs.Rows.{rowBytes, rowsOf}
+use Rattle.reading.specs.declared.Answer.the-variants as answer
+use Rattle.reading.specs.Answer.{numbersOf}
 use Rattle.reading.specs.Reading.{pickedRows, pageOf}
-use Rattle.reading.specs.Outcome.{Lent, Outcome, scratchBytes, zeros, passes, read, after, outcome, gave}
-use Rattle.reading.proofs.Checks.{passed, roomy-fits}
-use Rattle.reading.proofs.Demand1.{read-late}
-use Rattle.reader.specs.Finish.{buffers, gives}
+use Rattle.reading.specs.Outcome.{Lent, Outcome, Check, zeros, passes, refuses, checks, ended, solved, read, after, outcome, gave}
+use Rattle.reading.proofs.Demand1.{EarlyCheck, read-late}
+use Rattle.reading.proofs.Given.{none-given, given-passes}
 use Rattle.checks.proofs.Gating.{outcome-read}
 use Rattle.both.specs.Both as spec
-use Rattle.both.specs.Both.{Second, lentToo, rest, checksBoth, followed, withSecond}
-use Rattle.both.specs.Added.{secondOf}
+use Rattle.both.specs.Both.{Second, lentToo, rest, roomyToo, checksBoth, alone, followed, withSecond}
+use Rattle.both.specs.Added.{firstOf, secondOf}
+use Rattle.both.specs.Parts.{Passing}
+use Rattle.both.specs.Saved.{secondList}
 use Rattle.both.proofs.Rests.{rest-read}
-use Rattle.both.proofs.Pairing.{asked-fits, plain-check, passing}
+use Rattle.both.proofs.Pairing.{asked-fits, both-early, plain-check, passing}
 
--- an outcome, part by part
-abbrev pub told : Outcome → Outcome
-told o = gives (o .answer) (buffers (o .lent .page) (o .lent .uses) (o .lent .roles) (o .lent .scratch))
+-- ---- the first answer decides
 
-module _ (n l : ℕ) (list : List ℕ) (lent : Lent) (s : Second) (b : Below 256 list) (p : checksBoth n l list lent s ≡ passes) (page : gave (outcome n l list lent) ≡ true) where
-  abbrev first : Outcome
-  first = outcome n l list lent
+module _ (n l : ℕ) (rows : List ℕ) (o : Outcome) (s : Second) where
+  same-answer : withSecond n l rows o s .answers .first ≡ o .answer
+  unfolding withSecond followed alone
+  same-answer = go (gave o)
+    where
+      go : (b : Bool) → cond b (followed n l (rest n l rows) o s) (alone o s) .answers .first ≡ o .answer
+      go true = refl
+      go false = refl
 
-  pub first-read : first ≡ read n l (rowsOf l list) lent
-  first-read = outcome-read n l list lent (plain-check n l list lent s p)
+  same-gave : gave (firstOf (withSecond n l rows o s)) ≡ gave o
+  unfolding gave
+  same-gave = ap (λ a. eqb (numbersOf a .number) 0) same-answer
 
-  pub followed-both : spec.both n l list lent s ≡ followed n l (rest n l (rowsOf l list)) first s
-  unfolding spec.both after withSecond
-  followed-both = rw (p, sym first-read, page)
+-- the scratch that a reading is lent does not matter, beyond what it clears
+scratch-again : (n l : ℕ) (rows scratch : List ℕ) (s : Second) → read n l rows (lentToo (over zeros scratch) s) ≡ read n l rows (lentToo scratch s)
+unfolding read ended solved
+scratch-again n l rows scratch s = rw (over-over zeros zeros scratch refl)
 
-  -- the first, but for the scratch, which the second has cleared anew
-  pub first-reads : gives (spec.both n l list lent s .answers .first) (buffers (spec.both n l list lent s .lent .page) (spec.both n l list lent s .lent .uses) (spec.both n l list lent s .lent .roles) (first .lent .scratch)) ≡ told first
-  unfolding followed
-  first-reads = rw followed-both
+module _ (n l : ℕ) (list : List ℕ) (lent : Lent) (s : Second) where
+  abbrev rows : List ℕ
+  rows = rowsOf l list
 
-  -- which is as long as before
-  same-scratch : length (first .lent .scratch) ≡ length (lent .scratch)
-  unfolding zeros scratchBytes
-  same-scratch =
-      let room : scratchBytes ≤ length (lent .scratch) = roomy-fits n l (rowCount l list) lent (passed n l list lent (plain-check n l list lent s p) .roomed) .scratch in
-      let size : length zeros ≡ 32768 = length-replicate {A = ℕ} 32768 0 in
-      rw first-read (ap length (read-late n l (rowsOf l list) lent .scratch) ∙ length-over zeros (lent .scratch) (omega arith))
+  -- the reading after the checks of both
+  abbrev checked : Outcome
+  checked = after (checksBoth n l list lent s) n l rows lent
 
-  -- the second, of the rows that do not agree
-  pub second-reads : secondOf (spec.both n l list lent s) ≡ told (outcome n l (flat (rowBytes l) (rest n l (rowsOf l list))) (lentToo (first .lent .scratch) s))
-  unfolding followed
-  second-reads =
-      rw followed-both (ap told (sym (rest-read n l list s (first .lent .scratch) (passing n l list lent s (asked-fits n l list lent s p) (plain-check n l list lent s p) (first .lent .scratch) same-scratch) b
-      (pageOf n l (pickedRows n (rowsOf l list))))))
+  -- "If the first answer isn't 0, the second is 5 with rank 0 and the second buffers stay untouched."
+  pub no-second : gave (firstOf (spec.both n l list lent s)) ≡ false
+      → (spec.both n l list lent s .answers .second ≡ answer.Few 0) × (spec.both n l list lent s .answers .rows ≡ 0) × (spec.both n l list lent s .second ≡ s)
+  unfolding spec.both withSecond alone
+  no-second e = let none : gave checked ≡ false = sym (same-gave n l rows checked s) ∙ e in rw none (refl, refl, refl)
+
+  -- ---- the first reading, however it ends
+
+  module _ (room : roomyToo n l list (lent .scratch) s ≡ true) where
+    abbrev plain : Outcome
+    plain = outcome n l list lent
+
+    same-checks : checksBoth n l list lent s ≡ checks n l list lent
+    unfolding checksBoth checks
+    same-checks = rw room
+
+    with-plain : spec.both n l list lent s ≡ withSecond n l rows plain s
+    unfolding spec.both outcome
+    with-plain = rw same-checks
+
+    -- the second reading clears the scratch that the first has cleared
+    scratch-same : gave plain ≡ true → read n l (rest n l rows) (lentToo (plain .lent .scratch) s) .lent .scratch ≡ plain .lent .scratch
+    scratch-same g =
+        let first : plain .lent .scratch ≡ over zeros (lent .scratch) = ap (λ (o : Outcome). o .lent .scratch) (outcome-read n l list lent (given-passes n l list lent g)) ∙ read-late n l rows lent .scratch in
+        read-late n l (rest n l rows) (lentToo (plain .lent .scratch) s) .scratch ∙ rw first (over-over zeros zeros (lent .scratch) refl)
+
+    -- where the second buffers have room, the first reading is the plain one
+    pub first-reads : firstOf (spec.both n l list lent s) ≡ outcome n l list lent
+    first-reads = ap firstOf with-plain ∙ (unfold withSecond followed alone in go (gave plain) refl)
+      where
+        go : (b : Bool) → gave plain ≡ b → firstOf (cond b (followed n l (rest n l rows) plain s) (alone plain s)) ≡ plain
+        go true e =
+            unfold followed in λ i. record {
+              answer = plain .answer;
+              lent = record { page = plain .lent .page; uses = plain .lent .uses; roles = plain .lent .roles; scratch = scratch-same e i };
+            }
+        go false e = unfold alone in refl
+
+  -- ---- a page was given
+
+  module _ (page : gave (firstOf (spec.both n l list lent s)) ≡ true) where
+    given : gave checked ≡ true
+    unfolding spec.both
+    given = sym (same-gave n l rows checked s) ∙ page
+
+    pub both-passes : checksBoth n l list lent s ≡ passes
+    both-passes = go (checksBoth n l list lent s) (both-early n l list lent s) given
+      where
+        go : (k : Check) → EarlyCheck k → gave (after k n l rows lent) ≡ true → k ≡ passes
+        go passes e g = refl
+        go (refuses a) e g = absurd (true≢false (sym g ∙ (unfold after in none-given (record { answer = a; lent = lent }) (e .0))))
+
+    pub first-given : gave (read n l rows lent) ≡ true
+    unfolding after
+    first-given = rw both-passes at given
+
+    pub followed-both : spec.both n l list lent s ≡ followed n l (rest n l rows) (read n l rows lent) s
+    unfolding spec.both after withSecond
+    followed-both = rw (both-passes, first-given)
+
+    -- the one scratch, cleared
+    cleared : read n l rows lent .lent .scratch ≡ over zeros (lent .scratch)
+    cleared = read-late n l rows lent .scratch
+
+    pub second-read : secondOf (spec.both n l list lent s) ≡ read n l (rest n l rows) (lentToo (lent .scratch) s)
+    second-read = ap secondOf followed-both ∙ (unfold followed in rw cleared (scratch-again n l (rest n l rows) (lent .scratch) s))
+
+    module _ (b : Below 256 list) where
+      abbrev page₁ : List ℕ
+      page₁ = pageOf n l (pickedRows n rows)
+
+      -- the second list, as it was copied
+      pub second-list : secondList l (spec.both n l list lent s) ≡ flat (rowBytes l) (rest n l rows)
+      second-list =
+          ap (secondList l) followed-both ∙ (unfold followed in take-over (flat (rowBytes l) (rest n l rows)) (s .list) (length (rest n l rows) * rowBytes l) (length-flat (rowBytes l) (rest n l rows)))
+
+      has-room : Passing n l list s (lent .scratch)
+      has-room = passing n l list lent s (asked-fits n l list lent s both-passes) (plain-check n l list lent s both-passes) (lent .scratch) refl
+
+      -- its reading is the plain one
+      pub second-reads : secondOf (spec.both n l list lent s) ≡ outcome n l (secondList l (spec.both n l list lent s)) (lentToo (lent .scratch) s)
+      second-reads = second-read ∙ sym (rest-read n l list s (lent .scratch) has-room b page₁) ∙ ap (λ (t : List ℕ). outcome n l t (lentToo (lent .scratch) s)) (sym second-list)

@@ -1,5 +1,5 @@
--- Demand 2, from written frames to a page: frames written from one page with any seeds, in any order, with frames of other pages or damaged
--- ones in between, laid one after the other and read, give that page whenever their rank reaches the number of symbols.
+-- Demand 2, from written frames to a page: frames written from one page with any seeds, in any order, with frames of other pages or shapes and
+-- frames that break the layout in between, laid one after the other and read, give that page whenever their rank reaches the number of symbols.
 -- Assumes nothing.
 use mathlib.Core.Path.{_≡_, refl, _∙_}
 use Prim.Native.Nat.{ℕ, suc, _+_, _*_, _^_, _≤_, _<_}
@@ -28,8 +28,9 @@ use Rattle.reading.specs.Outcome.{Lent, passes, mostRows, wholeRows, roomy, str
 use Rattle.reading.proofs.Demand2.{demand-2}
 use Rattle.writing.specs.Writing.{frameOf}
 use Rattle.crossing.proofs.Sent.{frame-reads, frame-row}
-use Rattle.crossing.specs.Sheet.{blank, offeredAll, listOf}
-use Rattle.crossing.proofs.Laid.{Refused, Came, laid-list}
+use Rattle.crossing.specs.Sheet.{listLaid}
+use Rattle.crossing.specs.Caught.{Caught, framesOf, ownOf, Mixed, IsSeed, rowsFor}
+use Rattle.crossing.proofs.Laid.{Own, caught-list}
 
 -- ---- a list of rows passes the checks
 
@@ -47,17 +48,6 @@ flat-passes n l rows s most b inside lent room =
 
 -- ---- frames of one page, and others
 
-module _ (number n l : ℕ) (page : List ℕ) where
-  -- frames in the order in which they came: those written from the page, with their seeds, and others, which laying refuses
-  pub data Mixed : List (List ℕ) → List ℕ → Type 0 where
-    none : Mixed [] []
-    own : {frames : List (List ℕ)} {seeds : List ℕ} (seed : ℕ) → seed < 2 ^ 32 → Mixed frames seeds → Mixed (frameOf number n l seed page ∷ frames) (seed ∷ seeds)
-    other : {frame : List ℕ} {frames : List (List ℕ)} {seeds : List ℕ} → Refused number n l frame → Mixed frames seeds → Mixed (frame ∷ frames) seeds
-
--- the rows that a page gives for seeds
-unfoldable pub rowsFor : ℕ → ℕ → List ℕ → List ℕ → List ℕ
-rowsFor n l page seeds = map (λ seed. made l (symbols n l page) (draw.constraint n seed)) seeds
-
 module _ (number n l : ℕ) (page : List ℕ) (small : number < 2 ^ 32) (s : shape n l ≡ true) (size : length page ≡ n * l) (b : Below 256 page) where
   symbols-low : Below (2 ^ (8 * l)) (symbols n l page)
   symbols-low = symbols-below n l page size b
@@ -65,12 +55,9 @@ module _ (number n l : ℕ) (page : List ℕ) (small : number < 2 ^ 32) (s : sha
   drawn-low : (seed : ℕ) → draw.constraint n seed < 2 ^ n
   drawn-low seed = drawn-below n seed (shape-range n l s .n-low)
 
-  mixed-came : {frames : List (List ℕ)} {seeds : List ℕ} → Mixed number n l page frames seeds → Came number n l frames (rowsFor n l page seeds)
-  unfolding rowsFor
-  mixed-came Mixed.none = Came.none
-  mixed-came (Mixed.own seed h m) =
-      Came.own (record { seed = seed; reads = frame-reads number n l seed page small h s; row = frame-row number n l seed page small h s ∙ rowOf-made n l page b (draw.constraint n seed) }) (mixed-came m)
-  mixed-came (Mixed.other r m) = Came.other r (mixed-came m)
+  frame-own : (seed : ℕ) → IsSeed seed → Own number n l (frameOf number n l seed page) (made l (symbols n l page) (draw.constraint n seed))
+  frame-own seed h =
+      record { seed = seed; reads = frame-reads number n l seed page small h s; row = frame-row number n l seed page small h s ∙ rowOf-made n l page b (draw.constraint n seed) }
 
   rows-inside : (seeds : List ℕ) → Below (2 ^ n) (map (constraint l) (rowsFor n l page seeds))
   unfolding rowsFor
@@ -85,22 +72,29 @@ module _ (number n l : ℕ) (page : List ℕ) (small : number < 2 ^ 32) (s : sha
   rows-agree [] = tt
   rows-agree (seed ∷ seeds) = (made-agrees l (symbols n l page) symbols-low (draw.constraint n seed), rows-agree seeds)
 
-  pub crossing-2 : {frames : List (List ℕ)} {seeds : List ℕ} → Mixed number n l page frames seeds → length seeds ≤ 512
-      → (list : List ℕ) → rowBytes l * 512 ≤ length list → (lent : Lent) → roomy n l (length seeds) lent ≡ true → n ≤ rank (rowsFor n l page seeds)
-      → outcome n l (listOf l (offeredAll number n l frames (blank list))) lent
-      ≡ ended n (rowsFor n l page seeds) lent (answer.Page n (length seeds)) telling page
-  crossing-2 {seeds = seeds} m most list room lent roomed enough =
-      rw (laid-list number n l s (mixed-came m) (omega (arith, many)) list room)
-      (demand-2 n l (flat (rowBytes l) rows) lent passing page size b (rw same (rows-agree seeds)) (rw same enough) ∙ rw same (rw (rowCount-flat l rows) (rw many)))
-    where
-      rows : List ℕ
-      rows = rowsFor n l page seeds
+  module _ (caught : List (Caught ℕ)) (m : Mixed number n l IsSeed caught) (most : length (ownOf caught) ≤ 512) where
+    abbrev rows : List ℕ
+    rows = rowsFor n l page (ownOf caught)
 
-      many : length rows ≡ length seeds
-      many = unfold rowsFor in length-map seeds _
+    many : length rows ≡ length (ownOf caught)
+    unfolding rowsFor
+    many = length-map (ownOf caught) _
 
-      same : rowsOf l (flat (rowBytes l) rows) ≡ rows
-      same = rows-flat l rows (rows-low seeds)
+    pub crossed-list : (list : List ℕ) → rowBytes l * length (ownOf caught) ≤ length list
+        → listLaid number n l (framesOf (λ seed. frameOf number n l seed page) caught) list ≡ flat (rowBytes l) rows
+    unfolding rowsFor
+    crossed-list list room = caught-list number n l (λ seed. frameOf number n l seed page) _ IsSeed frame-own s caught m most list room
 
-      passing : checks n l (flat (rowBytes l) rows) lent ≡ passes
-      passing = flat-passes n l rows s (omega (arith, many)) (rows-low seeds) (rows-inside seeds) lent (rw many roomed)
+    -- whatever was caught besides: "gives that page whenever its rank reaches the number of symbols"
+    pub crossing-2 : (list : List ℕ) → rowBytes l * length (ownOf caught) ≤ length list → (lent : Lent) → roomy n l (length (ownOf caught)) lent ≡ true → n ≤ rank rows
+        → outcome n l (listLaid number n l (framesOf (λ seed. frameOf number n l seed page) caught) list) lent
+        ≡ ended n rows lent (answer.Page n (length (ownOf caught))) telling page
+    crossing-2 list room lent roomed enough =
+        rw (crossed-list list room)
+        (demand-2 n l (flat (rowBytes l) rows) lent passing page size b (rw same (rows-agree (ownOf caught))) (rw same enough) ∙ rw same (rw (rowCount-flat l rows) (rw many)))
+      where
+        same : rowsOf l (flat (rowBytes l) rows) ≡ rows
+        same = rows-flat l rows (rows-low (ownOf caught))
+
+        passing : checks n l (flat (rowBytes l) rows) lent ≡ passes
+        passing = flat-passes n l rows s (omega (arith, many)) (rows-low (ownOf caught)) (rows-inside (ownOf caught)) lent (rw many roomed)

@@ -1,7 +1,7 @@
 -- Demand 3, from written frames to a page: take any seeds, any pattern of flipped payload bits, and two pages of the same shape. The frames of
--- either page, with the same flips, laid and read, give the same but for the page, and the two pages given differ by the sum of the two
--- pages written. So what is written on a page never decides if it gets through. A misread seed names another sum, and of that nothing
--- is claimed here: a frame that reads as a good one of the page is then a row like any other.
+-- either page, with the same flips, and the same others in between that laying refuses, laid and read, give the same but for the page, and the
+-- two pages given differ by the sum of the two pages written. So what is written on a page never decides if it gets through. A misread seed
+-- names another sum, and of that nothing is claimed here: a frame that reads as a good one of the page is then a row like any other.
 -- Assumes nothing.
 use mathlib.Core.Path.{_≡_, refl, sym, ap, ap₂, _∙_}
 use Prim.Native.Nat.{ℕ, _+_, _*_, _^_, _≤_, _<_}
@@ -29,16 +29,24 @@ use Rattle.draw.proofs.Laws.{drawn-below}
 use Rattle.reading.specs.Outcome.{Lent, roomy, checks, passes, outcome}
 use Rattle.reading.specs.Added.{added}
 use Rattle.reading.proofs.Demand3.{demand-3}
-use Rattle.crossing.specs.Taken.{Take, taken, crossed}
+use Rattle.crossing.specs.Sheet.{listLaid}
+use Rattle.crossing.specs.Caught.{Caught, own, other, framesOf, ownOf, Mixed}
+use Rattle.crossing.specs.Taken.{Take, IsTake, taken}
 use Rattle.crossing.proofs.Moved.{flipped-constraint, moved-row}
-use Rattle.crossing.proofs.Laid.{Came, laid-list}
-use Rattle.crossing.proofs.Flipped.{Sound, rowTaken, taken-own}
+use Rattle.crossing.proofs.Laid.{caught-list}
+use Rattle.crossing.proofs.Flipped.{rowTaken, taken-own}
 use Rattle.crossing.proofs.Demand2.{flat-passes}
 
--- each of a list of takes is sound
-abbrev pub AllSound : ℕ → List Take → Type 0
-AllSound l [] = Unit {0}
-AllSound l (t ∷ ts) = Sound l t × AllSound l ts
+-- each of a list of takes is one
+abbrev AllTakes : ℕ → List Take → Type 0
+AllTakes l [] = Unit {0}
+AllTakes l (t ∷ ts) = IsTake l t × AllTakes l ts
+
+own-takes : (number n l : ℕ) (caught : List (Caught Take)) → Mixed number n l (IsTake l) caught → AllTakes l (ownOf caught)
+unfolding ownOf
+own-takes number n l [] m = tt
+own-takes number n l (own t ∷ caught) m = (m .0, own-takes number n l caught (m .1))
+own-takes number n l (other frame ∷ caught) m = own-takes number n l caught (m .1)
 
 -- two pages added bit by bit are added symbol by symbol
 length-plus : (p q : List ℕ) → length p ≡ length q → length (plus p q) ≡ length p
@@ -59,28 +67,24 @@ module _ (page-number n l : ℕ) (small : page-number < 2 ^ 32) (s : shape n l �
     low : Below (2 ^ (8 * l)) (symbols n l page)
     low = symbols-below n l page size b
 
-    takes-came : (ts : List Take) → AllSound l ts → Came page-number n l (map (taken page-number n l page) ts) (map (rowTaken n l page) ts)
-    takes-came [] a = Came.none
-    takes-came (t ∷ ts) a = Came.own (taken-own page-number n l page small s b t (a .0)) (takes-came ts (a .1))
-
-    flips-lt : (t : Take) → Sound l t → number (t .flips) < 2 ^ (8 * l)
+    flips-lt : (t : Take) → IsTake l t → number (t .flips) < 2 ^ (8 * l)
     flips-lt t a = rw (a .size) at (number-lt (t .flips) (a .bytes))
 
-    taken-inside : (ts : List Take) → AllSound l ts → Below (2 ^ n) (map (constraint l) (map (rowTaken n l page) ts))
+    taken-inside : (ts : List Take) → AllTakes l ts → Below (2 ^ n) (map (constraint l) (map (rowTaken n l page) ts))
     unfolding rowTaken
     taken-inside [] a = tt
     taken-inside (t ∷ ts) a =
         (rw (flipped-constraint l (symbols n l page) low (draw.constraint n (t .seed)) (number (t .flips)) (flips-lt t (a .0))) (drawn-below n (t .seed) (shape-range n l s .n-low)), taken-inside ts (a .1))
 
-    taken-low : (ts : List Take) → AllSound l ts → Below (2 ^ (8 * rowBytes l)) (map (rowTaken n l page) ts)
+    taken-low : (ts : List Take) → AllTakes l ts → Below (2 ^ (8 * rowBytes l)) (map (rowTaken n l page) ts)
     taken-low ts a =
         below-more (2 ^ (n + 8 * l)) (2 ^ (8 * rowBytes l)) (pow-mono (omega (arith, shape-range n l s .n-high))) (map (rowTaken n l page) ts)
         (rows-lt n l (map (rowTaken n l page) ts) (taken-inside ts a))
 
-    crossed-rows : (ts : List Take) → AllSound l ts → length ts ≤ 512 → (list : List ℕ) → rowBytes l * 512 ≤ length list
-        → crossed page-number n l page ts list ≡ flat (rowBytes l) (map (rowTaken n l page) ts)
-    unfolding crossed
-    crossed-rows ts a most list room = laid-list page-number n l s (takes-came ts a) (omega (arith, length-map ts (rowTaken n l page))) list room
+    crossed-rows : (caught : List (Caught Take)) → Mixed page-number n l (IsTake l) caught → length (ownOf caught) ≤ 512 → (list : List ℕ) → rowBytes l * length (ownOf caught) ≤ length list
+        → listLaid page-number n l (framesOf (taken page-number n l page) caught) list ≡ flat (rowBytes l) (map (rowTaken n l page) (ownOf caught))
+    crossed-rows caught m most list room =
+        caught-list page-number n l (taken page-number n l page) (rowTaken n l page) (IsTake l) (λ t a. taken-own page-number n l page small s b t a) s caught m most list room
 
   module _ (p q : List ℕ) (sp : length p ≡ n * l) (sq : length q ≡ n * l) (bp : Below 256 p) (bq : Below 256 q) where
     same-symbols : length (symbols n l p) ≡ length (symbols n l q)
@@ -103,7 +107,7 @@ module _ (page-number n l : ℕ) (small : page-number < 2 ^ 32) (s : shape n l �
         back : symbols n l (flat l both) ≡ both
         back = unfold symbols in ap (λ (m : ℕ). numbers l m (flat l both)) (sym many) ∙ numbers-flat l both (plus-below (8 * l) (symbols n l p) (symbols n l q) (low p sp bp) (low q sq bq))
 
-    moved-rows : (ts : List Take) → AllSound l ts → map (shifted l (symbols n l (xorBytes p q))) (map (rowTaken n l p) ts) ≡ map (rowTaken n l q) ts
+    moved-rows : (ts : List Take) → AllTakes l ts → map (shifted l (symbols n l (xorBytes p q))) (map (rowTaken n l p) ts) ≡ map (rowTaken n l q) ts
     unfolding rowTaken
     moved-rows [] a = refl
     moved-rows (t ∷ ts) a =
@@ -111,14 +115,21 @@ module _ (page-number n l : ℕ) (small : page-number < 2 ^ 32) (s : shape n l �
         (rw symbols-plus (moved-row l (symbols n l p) (symbols n l q) (low p sp bp) (low q sq bq) same-symbols (draw.constraint n (t .seed)) (number (t .flips)) (flips-lt p sp bp t (a .0))))
         (moved-rows ts (a .1))
 
-    pub crossing-3 : (takes : List Take) → AllSound l takes → length takes ≤ 512 → (list : List ℕ) → rowBytes l * 512 ≤ length list
-        → (lent : Lent) → roomy n l (length takes) lent ≡ true
-        → outcome n l (crossed page-number n l q takes list) lent ≡ added (xorBytes p q) (outcome n l (crossed page-number n l p takes list) lent)
-    crossing-3 takes a most list room lent roomed =
-        rw (crossed-rows q sq bq takes a most list room) (rw (crossed-rows p sp bp takes a most list room)
+    pub crossing-3 : (caught : List (Caught Take)) → Mixed page-number n l (IsTake l) caught → length (ownOf caught) ≤ 512
+        → (list : List ℕ) → rowBytes l * length (ownOf caught) ≤ length list → (lent : Lent) → roomy n l (length (ownOf caught)) lent ≡ true
+        → outcome n l (listLaid page-number n l (framesOf (taken page-number n l q) caught) list) lent
+        ≡ added (xorBytes p q) (outcome n l (listLaid page-number n l (framesOf (taken page-number n l p) caught) list) lent)
+    crossing-3 caught m most list room lent roomed =
+        rw (crossed-rows q sq bq caught m most list room) (rw (crossed-rows p sp bp caught m most list room)
         (ap (λ (bytes : List ℕ). outcome n l bytes lent) moved
         ∙ demand-3 n l (flat (rowBytes l) rows) lent (flat-below (8 + l) rows) passing (xorBytes p q) (length-xorBytes p q (sp ∙ sym sq) ∙ sp) (xorBytes-below p q bp bq)))
       where
+        takes : List Take
+        takes = ownOf caught
+
+        a : AllTakes l takes
+        a = own-takes page-number n l caught m
+
         rows : List ℕ
         rows = map (rowTaken n l p) takes
 

@@ -23,7 +23,7 @@ use Rattle.writing.specs.Writing.{sumBytes, frameOf}
 use Rattle.frame.proofs.Lengths.{length-head, length-mark}
 use Rattle.frame.proofs.ReadBack.{laid-out-reads, laid-out-payload}
 use Rattle.laying.proofs.Laying.{row-is}
-use Rattle.crossing.specs.Taken.{Take, flipped, taken}
+use Rattle.crossing.specs.Taken.{Take, IsTake, flipped, taken}
 use Rattle.crossing.proofs.Laid.{Own}
 
 -- the payload is what stands behind the first 22 bytes
@@ -62,23 +62,17 @@ row-bytes n l page b c flips size bf =
     low = bytes-append 8 l (number flips)
         ∙ ap₂ (λ (h t : List ℕ). h ++ t) (ap (bytes 8) (div-eq-of-lt (rw size at (number-lt flips bf))) ∙ bytes-zero 8) (ap (λ (k : ℕ). bytes k (number flips)) (sym size) ∙ bytes-number flips bf)
 
--- what is asked of a take: a seed of four bytes, and a pattern of l bytes
-pub record Sound (l : ℕ) (t : Take) : Type 0 where
-  pub seeded : t .seed < 2 ^ 32
-  pub size : length (t .flips) ≡ l
-  pub bytes : Below 256 (t .flips)
-
-module _ (page-number n l : ℕ) (page : List ℕ) (small : page-number < 2 ^ 32) (s : shape n l ≡ true) (b : Below 256 page) (t : Take) (sound : Sound l t) where
+module _ (page-number n l : ℕ) (page : List ℕ) (small : page-number < 2 ^ 32) (s : shape n l ≡ true) (b : Below 256 page) (t : Take) (right : IsTake l t) where
   payload : List ℕ
   payload = xorBytes (sumBytes n l page (draw.constraint n (t .seed))) (t .flips)
 
   sized : length (sumBytes n l page (draw.constraint n (t .seed))) ≡ length (t .flips)
   unfolding sumBytes
-  sized = length-bytes l _ ∙ sym (sound .size)
+  sized = length-bytes l _ ∙ sym (right .size)
 
   long : length payload ≡ l
   unfolding payload
-  long = length-xorBytes (sumBytes n l page (draw.constraint n (t .seed))) (t .flips) sized ∙ sized ∙ sound .size
+  long = length-xorBytes (sumBytes n l page (draw.constraint n (t .seed))) (t .flips) sized ∙ sized ∙ right .size
 
   taken-is : taken page-number n l page t ≡ frameBytes page-number n l (t .seed) payload
   unfolding taken payload frameOf
@@ -88,9 +82,9 @@ module _ (page-number n l : ℕ) (page : List ℕ) (small : page-number < 2 ^ 32
   taken-own =
       rw taken-is (record {
         seed = t .seed;
-        reads = laid-out-reads page-number n l (t .seed) payload small (sound .seeded) s long;
+        reads = laid-out-reads page-number n l (t .seed) payload small (right .seeded) s long;
         row =
-            row-is (frameBytes page-number n l (t .seed) payload) page-number n l (t .seed) (laid-out-reads page-number n l (t .seed) payload small (sound .seeded) s long)
-            ∙ ap (λ (p : List ℕ). bytes 8 (draw.constraint n (t .seed)) ++ p) (laid-out-payload page-number n l (t .seed) payload small (sound .seeded) s long)
-            ∙ unfold payload sumBytes rowTaken in row-bytes n l page b (draw.constraint n (t .seed)) (t .flips) (sound .size) (sound .bytes);
+            row-is (frameBytes page-number n l (t .seed) payload) page-number n l (t .seed) (laid-out-reads page-number n l (t .seed) payload small (right .seeded) s long)
+            ∙ ap (λ (p : List ℕ). bytes 8 (draw.constraint n (t .seed)) ++ p) (laid-out-payload page-number n l (t .seed) payload small (right .seeded) s long)
+            ∙ unfold payload sumBytes rowTaken in row-bytes n l page b (draw.constraint n (t .seed)) (t .flips) (right .size) (right .bytes);
       })

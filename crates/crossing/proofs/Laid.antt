@@ -4,8 +4,8 @@ use mathlib.Core.Path.{_≡_, refl, sym, ap, _∙_}
 use Prim.Native.Nat.{ℕ, suc, _+_, _*_, _≤_, _<_}
 use native.Mathlib.Nat.{mul-suc, mul-le-mul-left}
 use native.Mathlib.Omega.{arith}
-use mathlib.Core.Bool.{true, false, true≢false}
-use mathlib.Core.List.{List, [], _∷_, _++_, append-assoc, append-nil}
+use mathlib.Core.Bool.{Bool, true, false, cond, not, _&&_, true≢false}
+use mathlib.Core.List.{List, [], _∷_, _++_, map, append-nil}
 use lib.Dec.{eqb}
 use lib.ListN.{length, take, drop, length-append}
 use lib.Seq.{append-snoc, length-take-le, take-append-add, take-at}
@@ -18,9 +18,11 @@ use Rattle.frame.specs.declared.Frame.the-variants as frames
 use Rattle.laying.specs.declared.Laid.{Laid}
 use Rattle.laying.specs.declared.Laid.the-variants as laids
 use Rattle.frame.specs.Reading.{reading}
-use Rattle.laying.specs.Laying.{laid, numberOf, listAfter, frameRow}
+use Rattle.frame.specs.Numbers.{isGood}
+use Rattle.laying.specs.Laying.{samePage, placing, laid, numberOf, listAfter, frameRow}
 use Rattle.laying.proofs.Laying.{laid-placing, placing-row}
-use Rattle.crossing.specs.Sheet.{Sheet, offered, offeredAll, listOf, blank}
+use Rattle.crossing.specs.Sheet.{Sheet, offered, offeredAll, listOf, listLaid, blank}
+use Rattle.crossing.specs.Caught.{Caught, own, other, framesOf, ownOf, ofPage, Mixed}
 
 -- the front of a list, up to a part that is laid there
 take-laid : (at : ℕ) (new old : List ℕ) → at ≤ length old → take (at + length new) (lay at new old) ≡ take at old ++ new
@@ -31,39 +33,37 @@ take-laid at new old h =
     ∙ take-append-add (take at old) (new ++ drop (length new) (drop at old)) (length new)
     ∙ ap (λ (t : List ℕ). take at old ++ t) (take-at new (drop (length new) (drop at old)) (length new) refl)
 
--- ---- what a sheet holds
+-- ---- what a sheet holds, in a list with room for so many rows
 
-pub record Holds (l : ℕ) (rows : List ℕ) (s : Sheet) : Type 0 where
+pub record Holds (l total : ℕ) (rows : List ℕ) (s : Sheet) : Type 0 where
   pub many : s .rows ≡ length rows
   pub list : listOf l s ≡ flat (rowBytes l) rows
-  pub room : rowBytes l * 512 ≤ length (s .list)
+  pub room : rowBytes l * total ≤ length (s .list)
 
-pub blank-holds : (l : ℕ) (list : List ℕ) → rowBytes l * 512 ≤ length list → Holds l [] (blank list)
+blank-holds : (l total : ℕ) (list : List ℕ) → rowBytes l * total ≤ length list → Holds l total [] (blank list)
 unfolding listOf flat
-blank-holds l list h = let zero : (8 + l) * 0 ≡ 0 = omega arith in record { many = refl; list = rw zero; room = h }
+blank-holds l total list h = let zero : (8 + l) * 0 ≡ 0 = omega arith in record { many = refl; list = rw zero; room = h }
 
 -- the next row has its place
-next-inside : (l : ℕ) (rows : List ℕ) (s : Sheet) → Holds l rows s → length rows < 512 → rowBytes l * s .rows + rowBytes l ≤ length (s .list)
-next-inside l rows s h less =
-    let fewer : s .rows < 512 = omega (arith, h .many) in
+next-inside : (l total : ℕ) (rows : List ℕ) (s : Sheet) → Holds l total rows s → length rows < total → rowBytes l * s .rows + rowBytes l ≤ length (s .list)
+next-inside l total rows s h less =
+    let fewer : s .rows < total = omega (arith, h .many) in
     omega (arith, mul-le-mul-left (8 + l) fewer, mul-suc (8 + l) (s .rows), h .room)
 
+-- ---- frames that are refused
+
 module _ (number n l : ℕ) where
-  -- a frame of the page, read right: its row is x
-  pub record Own (frame : List ℕ) (x : ℕ) : Type 0 where
-    pub seed : ℕ
-    pub reads : reading frame ≡ frames.Good number n l seed
-    pub row : frameRow frame ≡ bytes (rowBytes l) x
-
-  -- a frame that laying refuses, wherever it is to go
-  abbrev pub Refused : List ℕ → Type 0
-  Refused frame = (arrival : ℕ) (list : List ℕ) → eqb (numberOf (laid frame number n l arrival list)) 0 ≡ false
-
-  -- frames in the order in which they came, and the rows of those that are the page's
-  pub data Came : List (List ℕ) → List ℕ → Type 0 where
-    none : Came [] []
-    own : {frame : List ℕ} {frames : List (List ℕ)} {x : ℕ} {xs : List ℕ} → Own frame x → Came frames xs → Came (frame ∷ frames) (x ∷ xs)
-    other : {frame : List ℕ} {frames : List (List ℕ)} {xs : List ℕ} → Refused frame → Came frames xs → Came (frame ∷ frames) xs
+  -- a frame that breaks the layout, or is a good one of another page number or shape, is refused wherever it is to go
+  pub refused-laid : (frame : List ℕ) → ofPage number n l frame ≡ false → (arrival : ℕ) (list : List ℕ) → eqb (numberOf (laid frame number n l arrival list)) 0 ≡ false
+  unfolding ofPage laid numberOf
+  refused-laid frame e arrival list = go (shape n l) (isGood (reading frame)) refl (samePage (reading frame) number n l) e
+    where
+      go : (s g : Bool) → isGood (reading frame) ≡ g → (o : Bool) → (g && o) ≡ false
+          → eqb (numberOf (cond (not s) laids.Shape (cond (not g) (laids.Refused (reading frame)) (cond (not o) laids.OtherPage (placing l arrival list))))) 0 ≡ false
+      go false g p o e = refl
+      go true false p o e = p
+      go true true p false e = refl
+      go true true p true e = absurd (true≢false e)
 
   same-list : (a : Laid) (at : ℕ) (row list : List ℕ) → eqb (numberOf a) 0 ≡ false → listAfter a at row list ≡ list
   unfolding listAfter numberOf
@@ -74,22 +74,32 @@ module _ (number n l : ℕ) where
   same-list laids.Full at row list e = refl
   same-list laids.Room at row list e = refl
 
-  -- "refused by laying, and change nothing"
-  pub refused-changes-nothing : (frame : List ℕ) → Refused frame → (s : Sheet) → offered number n l frame s ≡ s
+  -- and changes nothing
+  refused-offered : (frame : List ℕ) → ofPage number n l frame ≡ false → (s : Sheet) → offered number n l frame s ≡ s
   unfolding offered
-  refused-changes-nothing frame r s =
-      rw (r (s .rows) (s .list)) (rw (same-list (laid frame number n l (s .rows) (s .list)) (rowBytes l * s .rows) (frameRow frame) (s .list) (r (s .rows) (s .list))))
+  refused-offered frame e s =
+      let refused = refused-laid frame e (s .rows) (s .list) in
+      rw (refused, same-list (laid frame number n l (s .rows) (s .list)) (rowBytes l * s .rows) (frameRow frame) (s .list) refused)
 
-  module _ (shaped : shape n l ≡ true) where
-    own-laid : (frame : List ℕ) (x : ℕ) → Own frame x → (rows : List ℕ) (s : Sheet) → Holds l rows s → length rows < 512
+  -- ---- frames of the page
+
+  -- a frame of the page, read right: its row is x
+  pub record Own (frame : List ℕ) (x : ℕ) : Type 0 where
+    pub seed : ℕ
+    pub reads : reading frame ≡ frames.Good number n l seed
+    pub row : frameRow frame ≡ bytes (rowBytes l) x
+
+  -- what was caught, with the row that each of the page's own frames has
+  module _ {A : Type 0} (make : A → List ℕ) (row : A → ℕ) (Right : A → Type 0) (owns : (a : A) → Right a → Own (make a) (row a)) (shaped : shape n l ≡ true) (total : ℕ) (most : total ≤ 512) where
+    own-laid : (frame : List ℕ) (x : ℕ) → Own frame x → (rows : List ℕ) (s : Sheet) → Holds l total rows s → length rows < total
         → offered number n l frame s ≡ record { list = lay (rowBytes l * s .rows) (bytes (rowBytes l) x) (s .list); rows = suc (s .rows) }
     unfolding offered
     own-laid frame x o rows s h less = rw placed (rw (o .row) (unfold listAfter numberOf in refl))
       where
         placed : laid frame number n l (s .rows) (s .list) ≡ laids.Row
-        placed = laid-placing frame number n l (s .rows) (s .list) shaped number n l (o .seed) (o .reads) refl refl refl ∙ placing-row l (s .rows) (s .list) (omega (arith, h .many)) (next-inside l rows s h less)
+        placed = laid-placing frame number n l (s .rows) (s .list) shaped number n l (o .seed) (o .reads) refl refl refl ∙ placing-row l (s .rows) (s .list) (omega (arith, h .many)) (next-inside l total rows s h less)
 
-    own-holds : (frame : List ℕ) (x : ℕ) → Own frame x → (rows : List ℕ) (s : Sheet) → Holds l rows s → length rows < 512 → Holds l (rows ++ (x ∷ [])) (offered number n l frame s)
+    own-holds : (frame : List ℕ) (x : ℕ) → Own frame x → (rows : List ℕ) (s : Sheet) → Holds l total rows s → length rows < total → Holds l total (rows ++ (x ∷ [])) (offered number n l frame s)
     own-holds frame x o rows s h less =
         rw (own-laid frame x o rows s h less)
         (record {
@@ -99,7 +109,7 @@ module _ (number n l : ℕ) where
         })
       where
         inside : rowBytes l * s .rows + rowBytes l ≤ length (s .list)
-        inside = next-inside l rows s h less
+        inside = next-inside l total rows s h less
 
         next : rowBytes l * suc (s .rows) ≡ rowBytes l * s .rows + length (bytes (rowBytes l) x)
         next = omega (arith, mul-suc (8 + l) (s .rows), length-bytes (8 + l) x)
@@ -115,15 +125,19 @@ module _ (number n l : ℕ) where
             rw next (take-laid (rowBytes l * s .rows) (bytes (rowBytes l) x) (s .list) (omega (arith, inside))
             ∙ ap (λ (t : List ℕ). t ++ bytes (rowBytes l) x) so-far ∙ sym (flat-append (8 + l) rows (x ∷ []) ∙ last))
 
-    came-holds : {frames : List (List ℕ)} {xs : List ℕ} → Came frames xs → (rows : List ℕ) (s : Sheet) → Holds l rows s → length rows + length xs ≤ 512
-        → Holds l (rows ++ xs) (offeredAll number n l frames s)
-    unfolding offeredAll
-    came-holds none rows s h most = rw (append-nil rows) h
-    came-holds (own {frame = frame} {x = x} {xs = xs} o c) rows s h most =
-        rw (append-snoc rows x xs) at (came-holds c (rows ++ (x ∷ [])) (offered number n l frame s) (own-holds frame x o rows s h (omega arith)) (omega (arith, length-append rows (x ∷ []))))
-    came-holds (other {frame = frame} r c) rows s h most = rw (refused-changes-nothing frame r s) (came-holds c rows s h most)
+    caught-holds : (caught : List (Caught A)) → Mixed number n l Right caught → (rows : List ℕ) (s : Sheet) → Holds l total rows s → length rows + length (ownOf caught) ≤ total
+        → Holds l total (rows ++ map row (ownOf caught)) (offeredAll number n l (framesOf make caught) s)
+    unfolding offeredAll framesOf ownOf
+    caught-holds [] m rows s h fit = rw (append-nil rows) h
+    caught-holds (own a ∷ caught) m rows s h fit =
+        rw (append-snoc rows (row a) (map row (ownOf caught))) at (caught-holds caught (m .1) (rows ++ (row a ∷ [])) (offered number n l (make a) s)
+        (own-holds (make a) (row a) (owns a (m .0)) rows s h (omega arith)) (omega (arith, length-append rows (row a ∷ []))))
+    caught-holds (other frame ∷ caught) m rows s h fit = caught-holds caught (m .1) rows (offered number n l frame s) (rw (refused-offered frame (m .0) s) h) fit
 
-    -- so the list that is read has the rows of the page's own frames, in order, and no others
-    pub laid-list : {frames : List (List ℕ)} {xs : List ℕ} → Came frames xs → length xs ≤ 512 → (list : List ℕ) → rowBytes l * 512 ≤ length list
-        → listOf l (offeredAll number n l frames (blank list)) ≡ flat (rowBytes l) xs
-    laid-list c most list room = came-holds c [] (blank list) (blank-holds l list room) (omega arith) .list
+  -- so the list that is read has the rows of the page's own frames, in order, and no others
+  pub caught-list : {A : Type 0} (make : A → List ℕ) (row : A → ℕ) (Right : A → Type 0) → ((a : A) → Right a → Own (make a) (row a)) → shape n l ≡ true
+      → (caught : List (Caught A)) → Mixed number n l Right caught → length (ownOf caught) ≤ 512 → (list : List ℕ) → rowBytes l * length (ownOf caught) ≤ length list
+      → listLaid number n l (framesOf make caught) list ≡ flat (rowBytes l) (map row (ownOf caught))
+  unfolding listLaid
+  caught-list make row Right owns shaped caught m most list room =
+      caught-holds make row Right owns shaped (length (ownOf caught)) most caught m [] (blank list) (blank-holds l (length (ownOf caught)) list room) (omega arith) .list

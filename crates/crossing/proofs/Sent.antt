@@ -5,7 +5,6 @@ use Prim.Native.Nat.{ℕ, _^_, _<_}
 use mathlib.Core.Bool.{Bool, true, not}
 use mathlib.Core.List.{List, _++_}
 use lib.Dec.{eqb}
-use lib.ListN.{take}
 use borrow.Author.Tests.{not-false}
 use Rattle.space.specs.Lists.{Below}
 use Rattle.octets.specs.Octets.{number, bytes}
@@ -29,6 +28,7 @@ use Rattle.draw.proofs.Inside.{draws-below}
 use Rattle.frame.proofs.Lengths.{length-frame}
 use Rattle.frame.proofs.ReadBack.{laid-out-reads, laid-out-payload}
 use Rattle.laying.proofs.Laying.{laid-placing, row-is}
+use Rattle.crossing.specs.Sent.{sent}
 
 -- ---- what was checked where a frame was written
 
@@ -55,9 +55,6 @@ module _ (p n l seed : ℕ) (page : List ℕ) (small : p < 2 ^ 32) (seeded : see
   frame-row = row-is (frameOf p n l seed page) p n l seed frame-reads ∙ ap (λ t. bytes 8 (constraint n seed) ++ t) frame-payload
 
 -- ---- what writing leaves in the room
-
-unfoldable pub sent : ℕ → ℕ → ℕ → ℕ → List ℕ → List ℕ → List ℕ
-sent p n l seed page room = take (frameLength l) (roomAfter (written n l page room) (frameOf p n l seed page) room)
 
 module _ (p n l seed : ℕ) (page room : List ℕ) (small : p < 2 ^ 32) (seeded : seed < 2 ^ 32) (done : written n l page room ≡ Done) where
   s : shape n l ≡ true

@@ -1,2 +1,4 @@
 pub mod Sheet
+pub mod Sent
+pub mod Caught
 pub mod Taken

@@ -24,6 +24,7 @@ offered number n l frame s =
       rows = cond (eqb (numberOf (laid frame number n l (s .rows) (s .list))) 0) (suc (s .rows)) (s .rows);
     }
 
+-- Frames are laid in the order in which they come.
 unfoldable pub offeredAll : ℕ → ℕ → ℕ → List (List ℕ) → Sheet → Sheet
 offeredAll number n l [] s = s
 offeredAll number n l (frame ∷ frames) s = offeredAll number n l frames (offered number n l frame s)
@@ -31,3 +32,7 @@ offeredAll number n l (frame ∷ frames) s = offeredAll number n l frames (offer
 -- The rows laid, as the list that is then read.
 unfoldable pub listOf : ℕ → Sheet → List ℕ
 listOf l s = take (rowBytes l * s .rows) (s .list)
+
+-- The list that comes of frames laid one after the other into a lent list.
+unfoldable pub listLaid : ℕ → ℕ → ℕ → List (List ℕ) → List ℕ → List ℕ
+listLaid number n l frames list = listOf l (offeredAll number n l frames (blank list))
