@@ -87,17 +87,17 @@ module _ (n l : ℕ) (list : List ℕ) (lent : Lent) (s : Second) (b : Below 256
       (symbols-over n l page₁ (lent .page) (length-pageOf n l (pickedRows n rows)) (pageOf-below n l (pickedRows n rows)))
 
   -- the second list has the rows that don't agree with the page, in their old order, and no others
-  pub second-rows : secondRows l (spec.both n l list lent s) ≡ apart l (pageGiven n l (spec.both n l list lent s)) rows
+  pub second-rows : secondRows l (spec.both n l list lent s) ≡ apart l (pageGiven n l (spec.both n l list lent s)) (rowsOf l list)
   second-rows =
       ap (rowsOf l) (second-list n l list lent s page b) ∙ rows-flat l (rest n l rows) (apart-below l page₁ rows (2 ^ (8 * rowBytes l)) wide)
       ∙ ap (λ (p : List ℕ). apart l p rows) (sym page-is)
 
   -- each row agrees with the page or is in the second list
-  pub all-told : (r : ℕ) → List·Memᴰ r rows → (agrees l (pageGiven n l (spec.both n l list lent s)) r ≡ true) ⊎ List·Memᴰ r (secondRows l (spec.both n l list lent s))
+  pub all-told : (r : ℕ) → List·Memᴰ r (rowsOf l list) → (agrees l (pageGiven n l (spec.both n l list lent s)) r ≡ true) ⊎ List·Memᴰ r (secondRows l (spec.both n l list lent s))
   all-told r m = rw second-rows (told l (pageGiven n l (spec.both n l list lent s)) rows r m)
 
   pub other-version : (other : List ℕ) → length other ≡ n * l → Below 256 other
-      → OfEither l (pageGiven n l (spec.both n l list lent s)) (symbols n l other) rows → n ≤ rank (secondRows l (spec.both n l list lent s))
+      → OfEither l (pageGiven n l (spec.both n l list lent s)) (symbols n l other) (rowsOf l list) → n ≤ rank (secondRows l (spec.both n l list lent s))
       → secondOf (spec.both n l list lent s)
       ≡ ended n (secondRows l (spec.both n l list lent s)) (lentToo (lent .scratch) s) (answer.Page n (length (secondRows l (spec.both n l list lent s)))) telling other
   other-version other size bytes either enough =

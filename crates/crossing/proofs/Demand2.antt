@@ -28,7 +28,7 @@ use Rattle.reading.specs.Outcome.{Lent, passes, mostRows, wholeRows, roomy, str
 use Rattle.reading.proofs.Demand2.{demand-2}
 use Rattle.writing.specs.Writing.{frameOf}
 use Rattle.crossing.proofs.Sent.{frame-reads, frame-row}
-use Rattle.crossing.specs.Sheet.{listLaid}
+use Rattle.crossing.specs.Held.{listLaid}
 use Rattle.crossing.specs.Caught.{Caught, framesOf, ownOf, Mixed, IsSeed, rowsFor}
 use Rattle.crossing.proofs.Laid.{Own, caught-list}
 
@@ -55,7 +55,7 @@ module _ (number n l : ℕ) (page : List ℕ) (small : number < 2 ^ 32) (s : sha
   drawn-low : (seed : ℕ) → draw.constraint n seed < 2 ^ n
   drawn-low seed = drawn-below n seed (shape-range n l s .n-low)
 
-  frame-own : (seed : ℕ) → IsSeed seed → Own number n l (frameOf number n l seed page) (made l (symbols n l page) (draw.constraint n seed))
+  pub frame-own : (seed : ℕ) → IsSeed seed → Own number n l (frameOf number n l seed page) (made l (symbols n l page) (draw.constraint n seed))
   frame-own seed h =
       record { seed = seed; reads = frame-reads number n l seed page small h s; row = frame-row number n l seed page small h s ∙ rowOf-made n l page b (draw.constraint n seed) }
 
@@ -86,9 +86,10 @@ module _ (number n l : ℕ) (page : List ℕ) (small : number < 2 ^ 32) (s : sha
     crossed-list list room = caught-list number n l (λ seed. frameOf number n l seed page) _ IsSeed frame-own s caught m most list room
 
     -- whatever was caught besides: "gives that page whenever its rank reaches the number of symbols"
-    pub crossing-2 : (list : List ℕ) → rowBytes l * length (ownOf caught) ≤ length list → (lent : Lent) → roomy n l (length (ownOf caught)) lent ≡ true → n ≤ rank rows
+    pub crossing-2 : (list : List ℕ) → rowBytes l * length (ownOf caught) ≤ length list → (lent : Lent) → roomy n l (length (ownOf caught)) lent ≡ true
+        → n ≤ rank (rowsFor n l page (ownOf caught))
         → outcome n l (listLaid number n l (framesOf (λ seed. frameOf number n l seed page) caught) list) lent
-        ≡ ended n rows lent (answer.Page n (length (ownOf caught))) telling page
+        ≡ ended n (rowsFor n l page (ownOf caught)) lent (answer.Page n (length (ownOf caught))) telling page
     crossing-2 list room lent roomed enough =
         rw (crossed-list list room)
         (demand-2 n l (flat (rowBytes l) rows) lent passing page size b (rw same (rows-agree (ownOf caught))) (rw same enough) ∙ rw same (rw (rowCount-flat l rows) (rw many)))

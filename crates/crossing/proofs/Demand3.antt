@@ -29,7 +29,7 @@ use Rattle.draw.proofs.Laws.{drawn-below}
 use Rattle.reading.specs.Outcome.{Lent, roomy, checks, passes, outcome}
 use Rattle.reading.specs.Added.{added}
 use Rattle.reading.proofs.Demand3.{demand-3}
-use Rattle.crossing.specs.Sheet.{listLaid}
+use Rattle.crossing.specs.Held.{listLaid}
 use Rattle.crossing.specs.Caught.{Caught, own, other, framesOf, ownOf, Mixed}
 use Rattle.crossing.specs.Taken.{Take, IsTake, taken}
 use Rattle.crossing.proofs.Moved.{flipped-constraint, moved-row}

@@ -21,7 +21,7 @@ use Rattle.frame.specs.Reading.{reading}
 use Rattle.frame.specs.Numbers.{isGood}
 use Rattle.laying.specs.Laying.{samePage, placing, laid, numberOf, listAfter, frameRow}
 use Rattle.laying.proofs.Laying.{laid-placing, placing-row}
-use Rattle.crossing.specs.Sheet.{Sheet, offered, offeredAll, listOf, listLaid, blank}
+use Rattle.crossing.specs.Held.{Held, offered, offeredAll, listHeld, listLaid, blank}
 use Rattle.crossing.specs.Caught.{Caught, own, other, framesOf, ownOf, ofPage, Mixed}
 
 -- the front of a list, up to a part that is laid there
@@ -35,17 +35,17 @@ take-laid at new old h =
 
 -- ---- what a sheet holds, in a list with room for so many rows
 
-pub record Holds (l total : ℕ) (rows : List ℕ) (s : Sheet) : Type 0 where
+pub record Holds (l total : ℕ) (rows : List ℕ) (s : Held) : Type 0 where
   pub many : s .rows ≡ length rows
-  pub list : listOf l s ≡ flat (rowBytes l) rows
+  pub list : listHeld l s ≡ flat (rowBytes l) rows
   pub room : rowBytes l * total ≤ length (s .list)
 
 blank-holds : (l total : ℕ) (list : List ℕ) → rowBytes l * total ≤ length list → Holds l total [] (blank list)
-unfolding listOf flat
+unfolding listHeld flat
 blank-holds l total list h = let zero : (8 + l) * 0 ≡ 0 = omega arith in record { many = refl; list = rw zero; room = h }
 
 -- the next row has its place
-next-inside : (l total : ℕ) (rows : List ℕ) (s : Sheet) → Holds l total rows s → length rows < total → rowBytes l * s .rows + rowBytes l ≤ length (s .list)
+next-inside : (l total : ℕ) (rows : List ℕ) (s : Held) → Holds l total rows s → length rows < total → rowBytes l * s .rows + rowBytes l ≤ length (s .list)
 next-inside l total rows s h less =
     let fewer : s .rows < total = omega (arith, h .many) in
     omega (arith, mul-le-mul-left (8 + l) fewer, mul-suc (8 + l) (s .rows), h .room)
@@ -75,7 +75,7 @@ module _ (number n l : ℕ) where
   same-list laids.Room at row list e = refl
 
   -- and changes nothing
-  refused-offered : (frame : List ℕ) → ofPage number n l frame ≡ false → (s : Sheet) → offered number n l frame s ≡ s
+  pub refused-offered : (frame : List ℕ) → ofPage number n l frame ≡ false → (s : Held) → offered number n l frame s ≡ s
   unfolding offered
   refused-offered frame e s =
       let refused = refused-laid frame e (s .rows) (s .list) in
@@ -91,7 +91,7 @@ module _ (number n l : ℕ) where
 
   -- what was caught, with the row that each of the page's own frames has
   module _ {A : Type 0} (make : A → List ℕ) (row : A → ℕ) (Right : A → Type 0) (owns : (a : A) → Right a → Own (make a) (row a)) (shaped : shape n l ≡ true) (total : ℕ) (most : total ≤ 512) where
-    own-laid : (frame : List ℕ) (x : ℕ) → Own frame x → (rows : List ℕ) (s : Sheet) → Holds l total rows s → length rows < total
+    own-laid : (frame : List ℕ) (x : ℕ) → Own frame x → (rows : List ℕ) (s : Held) → Holds l total rows s → length rows < total
         → offered number n l frame s ≡ record { list = lay (rowBytes l * s .rows) (bytes (rowBytes l) x) (s .list); rows = suc (s .rows) }
     unfolding offered
     own-laid frame x o rows s h less = rw placed (rw (o .row) (unfold listAfter numberOf in refl))
@@ -99,12 +99,12 @@ module _ (number n l : ℕ) where
         placed : laid frame number n l (s .rows) (s .list) ≡ laids.Row
         placed = laid-placing frame number n l (s .rows) (s .list) shaped number n l (o .seed) (o .reads) refl refl refl ∙ placing-row l (s .rows) (s .list) (omega (arith, h .many)) (next-inside l total rows s h less)
 
-    own-holds : (frame : List ℕ) (x : ℕ) → Own frame x → (rows : List ℕ) (s : Sheet) → Holds l total rows s → length rows < total → Holds l total (rows ++ (x ∷ [])) (offered number n l frame s)
+    own-holds : (frame : List ℕ) (x : ℕ) → Own frame x → (rows : List ℕ) (s : Held) → Holds l total rows s → length rows < total → Holds l total (rows ++ (x ∷ [])) (offered number n l frame s)
     own-holds frame x o rows s h less =
         rw (own-laid frame x o rows s h less)
         (record {
           many = omega (arith, h .many, length-append rows (x ∷ []));
-          list = unfold listOf in longer;
+          list = unfold listHeld in longer;
           room = rw (length-lay (rowBytes l * s .rows) (bytes (rowBytes l) x) (s .list) (omega (arith, inside, length-bytes (8 + l) x))) (h .room);
         })
       where
@@ -118,14 +118,14 @@ module _ (number n l : ℕ) where
         last = unfold flat in ap (λ (t : List ℕ). flat (rowBytes l) rows ++ t) (append-nil (bytes (rowBytes l) x))
 
         so-far : take (rowBytes l * s .rows) (s .list) ≡ flat (rowBytes l) rows
-        so-far = unfold listOf in h .list
+        so-far = unfold listHeld in h .list
 
         longer : take (rowBytes l * suc (s .rows)) (lay (rowBytes l * s .rows) (bytes (rowBytes l) x) (s .list)) ≡ flat (rowBytes l) (rows ++ (x ∷ []))
         longer =
             rw next (take-laid (rowBytes l * s .rows) (bytes (rowBytes l) x) (s .list) (omega (arith, inside))
             ∙ ap (λ (t : List ℕ). t ++ bytes (rowBytes l) x) so-far ∙ sym (flat-append (8 + l) rows (x ∷ []) ∙ last))
 
-    caught-holds : (caught : List (Caught A)) → Mixed number n l Right caught → (rows : List ℕ) (s : Sheet) → Holds l total rows s → length rows + length (ownOf caught) ≤ total
+    caught-holds : (caught : List (Caught A)) → Mixed number n l Right caught → (rows : List ℕ) (s : Held) → Holds l total rows s → length rows + length (ownOf caught) ≤ total
         → Holds l total (rows ++ map row (ownOf caught)) (offeredAll number n l (framesOf make caught) s)
     unfolding offeredAll framesOf ownOf
     caught-holds [] m rows s h fit = rw (append-nil rows) h

@@ -1,4 +1,4 @@
-pub mod Sheet
+pub mod Held
 pub mod Sent
 pub mod Caught
 pub mod Taken

@@ -8,16 +8,16 @@ use Rattle.rows.specs.Rows.{rowBytes}
 use Rattle.laying.specs.Laying.{laid, numberOf, listAfter, frameRow}
 
 -- The list lent for the rows, and how many are laid in it.
-pub record Sheet : Type 0 where
+pub record Held : Type 0 where
   pub list : List ℕ
   pub rows : ℕ
 
 -- A list with no rows yet, whatever its bytes.
-abbrev pub blank : List ℕ → Sheet
+abbrev pub blank : List ℕ → Held
 blank list = record { list = list; rows = 0 }
 
 -- A frame is laid at the next arrival number; a refused one changes nothing.
-unfoldable pub offered : ℕ → ℕ → ℕ → List ℕ → Sheet → Sheet
+unfoldable pub offered : ℕ → ℕ → ℕ → List ℕ → Held → Held
 offered number n l frame s =
     record {
       list = listAfter (laid frame number n l (s .rows) (s .list)) (rowBytes l * s .rows) (frameRow frame) (s .list);
@@ -25,14 +25,14 @@ offered number n l frame s =
     }
 
 -- Frames are laid in the order in which they come.
-unfoldable pub offeredAll : ℕ → ℕ → ℕ → List (List ℕ) → Sheet → Sheet
+unfoldable pub offeredAll : ℕ → ℕ → ℕ → List (List ℕ) → Held → Held
 offeredAll number n l [] s = s
 offeredAll number n l (frame ∷ frames) s = offeredAll number n l frames (offered number n l frame s)
 
 -- The rows laid, as the list that is then read.
-unfoldable pub listOf : ℕ → Sheet → List ℕ
-listOf l s = take (rowBytes l * s .rows) (s .list)
+unfoldable pub listHeld : ℕ → Held → List ℕ
+listHeld l s = take (rowBytes l * s .rows) (s .list)
 
 -- The list that comes of frames laid one after the other into a lent list.
 unfoldable pub listLaid : ℕ → ℕ → ℕ → List (List ℕ) → List ℕ → List ℕ
-listLaid number n l frames list = listOf l (offeredAll number n l frames (blank list))
+listLaid number n l frames list = listHeld l (offeredAll number n l frames (blank list))
