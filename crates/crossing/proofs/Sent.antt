@@ -10,9 +10,9 @@ use Rattle.space.specs.Lists.{Below}
 use Rattle.octets.specs.Octets.{number, bytes}
 use Rattle.octets.proofs.Numbers.{length-bytes}
 use Rattle.octets.proofs.Runs.{take-over}
-use Rattle.rows.specs.Rows.{shape, symbols, rowBytes, agrees, made}
+use Rattle.rows.specs.Rows.{shape, symbols, agrees}
 use Rattle.rows.specs.Make.{rowOf}
-use Rattle.rows.proofs.Written.{rowOf-made, rowOf-agrees}
+use Rattle.rows.proofs.Written.{rowOf-agrees}
 use Rattle.rows.proofs.Shape.{shape-range}
 use Rattle.draw.specs.Draw.{constraint}
 use Rattle.writing.specs.declared.Written.{Written}
@@ -74,10 +74,9 @@ module _ (p n l seed : ℕ) (page room : List ℕ) (small : p < 2 ^ 32) (seeded 
   pub sent-laid : (arrival : ℕ) (list : List ℕ) → laid (sent p n l seed page room) p n l arrival list ≡ placing l arrival list
   sent-laid arrival list = laid-placing (sent p n l seed page room) p n l arrival list s p n l seed sent-reads refl refl refl
 
-  module _ (b : Below 256 page) where
-    pub sent-row : frameRow (sent p n l seed page room) ≡ bytes (rowBytes l) (made l (symbols n l page) (constraint n seed))
-    sent-row = rw sent-is (frame-row p n l seed page small seeded s ∙ rowOf-made n l page b (constraint n seed))
+  -- the row that making writes for the drawn constraint
+  pub sent-row : frameRow (sent p n l seed page room) ≡ rowOf n l (constraint n seed) page
+  sent-row = rw sent-is (frame-row p n l seed page small seeded s)
 
-    pub sent-agrees : agrees l (symbols n l page) (number (frameRow (sent p n l seed page room))) ≡ true
-    sent-agrees =
-        rw sent-is (rw (frame-row p n l seed page small seeded s) (rowOf-agrees n l page b (constraint n seed) (draws-below n seed (shape-range n l s .n-low) (shape-range n l s .n-high))))
+  pub sent-agrees : Below 256 page → agrees l (symbols n l page) (number (frameRow (sent p n l seed page room))) ≡ true
+  sent-agrees b = rw sent-row (rowOf-agrees n l page b (constraint n seed) (draws-below n seed (shape-range n l s .n-low) (shape-range n l s .n-high)))

@@ -30,7 +30,7 @@ ownOf (other frame ∷ caught) = ownOf caught
 unfoldable pub ofPage : ℕ → ℕ → ℕ → List ℕ → Bool
 ofPage number n l frame = isGood (reading frame) && samePage (reading frame) number n l
 
--- The others are those that break the layout, and good frames of another page number or shape; of the page's own something is asked.
+-- Of the page's own frames something is asked; each of the others breaks the layout, or is a good frame of another page number or shape.
 abbrev pub Mixed : {A : Type 0} → ℕ → ℕ → ℕ → (A → Type 0) → List (Caught A) → Type 0
 Mixed number n l Right [] = Unit {0}
 Mixed number n l Right (own a ∷ caught) = Right a × Mixed number n l Right caught

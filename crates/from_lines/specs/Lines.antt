@@ -22,13 +22,15 @@ pub record Left : Type 0 where
 abbrev pub started : List ℕ → Left
 started list = record { expected = Nothing; held = record { list = list; rows = 0 } }
 
--- A line is taken over what those before it have left.
+-- What a line's outcome leaves.
 abbrev pub leftBy : Outcome → Left
 leftBy o = record { expected = o .taken .sheet .expected; held = record { list = o .list; rows = o .taken .sheet .rows } }
 
+-- A line is taken over what those before it have left.
 unfoldable pub takenOver : List ℕ → Left → Left
 takenOver line left = leftBy (takeLine line (record { expected = left .expected; rows = left .held .rows }) (left .held .list))
 
+-- Lines are taken in order.
 unfoldable pub takenAll : List (List ℕ) → Left → Left
 takenAll [] left = left
 takenAll (line ∷ lines) left = takenAll lines (takenOver line left)

@@ -29,41 +29,35 @@ module _ (line : List ℕ) (sheet : Sheet) (list : List ℕ) where
   gives-17 e = sym (line-bad line sheet list e)
 
   module _ (fair : bad line ≡ false) where
-    abbrev frame : List ℕ
-    frame = pairs line
-
     -- The frame's refusals, whatever page was expected.
-    pub gives-refusal : isGood (reading frame) ≡ false → takeLine line sheet list ≡ gives (Refused (numberOf (reading frame)) (placeOf (reading frame))) sheet list
-    gives-refusal g = sym (frame-refused frame sheet list (reading frame) refl g _ (sym (result-refused _ _ g)) ∙ line-good line sheet list fair)
+    pub gives-refusal : isGood (reading (pairs line)) ≡ false → takeLine line sheet list ≡ gives (Refused (numberOf (reading (pairs line))) (placeOf (reading (pairs line)))) sheet list
+    gives-refusal g = sym (frame-refused (pairs line) sheet list (reading (pairs line)) refl g _ (sym (result-refused _ _ g)) ∙ line-good line sheet list fair)
 
-    module _ (p n l seed : ℕ) (good : reading frame ≡ frames.Good p n l seed) where
-      abbrev its : Page
-      its = record { number = p; n = n; l = l }
+    module _ (p n l seed : ℕ) (good : reading (pairs line) ≡ frames.Good p n l seed) where
+      on : (page : Page) → page ≡ expecting (sheet .expected) (record { number = p; n = n; l = l }) → takeLine line sheet list ≡ layOn page (pairs line) (sheet .rows) list
+      on page e = sym (frame-good (pairs line) sheet list p n l seed good page e ∙ line-good line sheet list fair)
 
-      on : (page : Page) → page ≡ expecting (sheet .expected) its → takeLine line sheet list ≡ layOn page frame (sheet .rows) list
-      on page e = sym (frame-good frame sheet list p n l seed good page e ∙ line-good line sheet list fair)
-
-      laid-as : (page : Page) → page ≡ expecting (sheet .expected) its → (answer : Laid)
-          → laying.laid frame (page .number) (page .n) (page .l) (sheet .rows) list ≡ answer
+      laid-as : (page : Page) → page ≡ expecting (sheet .expected) (record { number = p; n = n; l = l }) → (answer : Laid)
+          → laying.laid (pairs line) (page .number) (page .n) (page .l) (sheet .rows) list ≡ answer
           → takeLine line sheet list
           ≡ gives (result (laying.numberOf answer) (laying.placeOf answer))
           (record { expected = Only page; rows = rowsAfter (result (laying.numberOf answer) (laying.placeOf answer)) (sheet .rows) })
-          (laying.listAfter answer (rowBytes (page .l) * sheet .rows) (laying.frameRow frame) list)
+          (laying.listAfter answer (rowBytes (page .l) * sheet .rows) (laying.frameRow (pairs line)) list)
       unfolding layOn
       laid-as page e answer a = on page e ∙ rw a
 
       -- "The first good frame sets the expected page number, n and L", and its row is laid.
       module _ (fresh : sheet .expected ≡ Nothing) (few : sheet .rows ≤ 511) (room : rowBytes l * sheet .rows + rowBytes l ≤ length list) where
         pub first-good : takeLine line sheet list
-            ≡ gives Row (record { expected = Only its; rows = sheet .rows + 1 }) (lay (rowBytes l * sheet .rows) (laying.frameRow frame) list)
+            ≡ gives Row (record { expected = Only (record { number = p; n = n; l = l }); rows = sheet .rows + 1 }) (lay (rowBytes l * sheet .rows) (laying.frameRow (pairs line)) list)
         unfolding expecting laying.numberOf laying.placeOf laying.listAfter result rowsAfter
         first-good =
-            laid-as its (rw fresh) laid.Row
-            (laid-placing frame p n l (sheet .rows) list (good-shaped frame p n l seed good) p n l seed good refl refl refl ∙ placing-row l (sheet .rows) list few room)
+            laid-as (record { number = p; n = n; l = l }) (rw fresh) laid.Row
+            (laid-placing (pairs line) p n l (sheet .rows) list (good-shaped (pairs line) p n l seed good) p n l seed good refl refl refl ∙ placing-row l (sheet .rows) list few room)
 
       -- Later ones are held to it.
       module _ (page : Page) (set : sheet .expected ≡ Only page) (s : shape (page .n) (page .l) ≡ true) where
-        expected : page ≡ expecting (sheet .expected) its
+        expected : page ≡ expecting (sheet .expected) (record { number = p; n = n; l = l })
         unfolding expecting
         expected = rw set
 
@@ -74,12 +68,12 @@ module _ (line : List ℕ) (sheet : Sheet) (list : List ℕ) where
         pub gives-16 : laying.samePage (frames.Good p n l seed) (page .number) (page .n) (page .l) ≡ false → takeLine line sheet list ≡ gives (Refused 16 0) sheet list
         unfolding laying.numberOf laying.placeOf laying.listAfter result rowsAfter
         gives-16 o =
-            laid-as page expected laid.OtherPage (laid-other frame (page .number) (page .n) (page .l) (sheet .rows) list s p n l seed good o)
+            laid-as page expected laid.OtherPage (laid-other (pairs line) (page .number) (page .n) (page .l) (sheet .rows) list s p n l seed good o)
             ∙ ap (λ t. gives (Refused 16 0) t list) same
 
         module _ (is-p : p ≡ page .number) (is-n : n ≡ page .n) (is-l : l ≡ page .l) where
-          placed : laying.laid frame (page .number) (page .n) (page .l) (sheet .rows) list ≡ laying.placing (page .l) (sheet .rows) list
-          placed = laid-placing frame (page .number) (page .n) (page .l) (sheet .rows) list s p n l seed good is-p is-n is-l
+          placed : laying.laid (pairs line) (page .number) (page .n) (page .l) (sheet .rows) list ≡ laying.placing (page .l) (sheet .rows) list
+          placed = laid-placing (pairs line) (page .number) (page .n) (page .l) (sheet .rows) list s p n l seed good is-p is-n is-l
 
           -- "a 513th row is 2 at 0."
           pub gives-2 : 511 < sheet .rows → takeLine line sheet list ≡ gives (Refused 2 0) sheet list
@@ -88,6 +82,6 @@ module _ (line : List ℕ) (sheet : Sheet) (list : List ℕ) where
 
           pub gives-row : sheet .rows ≤ 511 → rowBytes (page .l) * sheet .rows + rowBytes (page .l) ≤ length list
               → takeLine line sheet list
-              ≡ gives Row (record { expected = Only page; rows = sheet .rows + 1 }) (lay (rowBytes (page .l) * sheet .rows) (laying.frameRow frame) list)
+              ≡ gives Row (record { expected = Only page; rows = sheet .rows + 1 }) (lay (rowBytes (page .l) * sheet .rows) (laying.frameRow (pairs line)) list)
           unfolding laying.numberOf laying.placeOf laying.listAfter result rowsAfter
           gives-row few room = laid-as page expected laid.Row (placed ∙ placing-row (page .l) (sheet .rows) list few room)
