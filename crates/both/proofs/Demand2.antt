@@ -2,44 +2,27 @@
 -- list. So what is proved of `outcome` is proved of both.
 -- Assumes nothing.
 use mathlib.Core.Path.{_≡_, refl, sym, ap, _∙_}
-use Prim.Native.Nat.{ℕ, _*_}
-use mathlib.Core.Bool.{Bool, true, false, cond, true≢false}
+use Prim.Native.Nat.{ℕ}
+use mathlib.Core.Bool.{Bool, true, false, cond}
 use mathlib.Core.List.{List}
-use lib.Dec.{eqb}
-use lib.ListN.{length}
 use Rattle.space.specs.Lists.{Below}
-use Rattle.octets.specs.Octets.{flat, over}
-use Rattle.octets.proofs.Runs.{length-flat, take-over, over-over}
-use Rattle.rows.specs.Rows.{rowBytes, rowsOf}
+use Rattle.octets.specs.Octets.{over}
+use Rattle.octets.proofs.Runs.{over-over}
+use Rattle.rows.specs.Rows.{rowsOf}
 use Rattle.reading.specs.declared.Answer.the-variants as answer
-use Rattle.reading.specs.Answer.{numbersOf}
 use Rattle.reading.specs.Reading.{pickedRows, pageOf}
-use Rattle.reading.specs.Outcome.{Lent, Outcome, Check, zeros, passes, refuses, checks, ended, solved, read, after, outcome, gave}
-use Rattle.reading.proofs.Demand1.{EarlyCheck, read-late}
-use Rattle.reading.proofs.Given.{none-given, given-passes}
+use Rattle.reading.specs.Outcome.{Lent, Outcome, zeros, checks, ended, solved, read, after, outcome, gave}
+use Rattle.reading.proofs.Demand1.{read-late}
+use Rattle.reading.proofs.Given.{given-passes}
 use Rattle.checks.proofs.Gating.{outcome-read}
 use Rattle.both.specs.Both as spec
 use Rattle.both.specs.Both.{Second, lentToo, rest, roomyToo, checksBoth, alone, followed, withSecond}
 use Rattle.both.specs.Added.{firstOf, secondOf}
 use Rattle.both.specs.Parts.{Passing}
 use Rattle.both.specs.Saved.{secondList}
+use Rattle.both.proofs.Given.{same-gave, both-passes, followed-both, second-list}
 use Rattle.both.proofs.Rests.{rest-read}
-use Rattle.both.proofs.Pairing.{asked-fits, both-early, plain-check, passing}
-
--- ---- the first answer decides
-
-module _ (n l : ℕ) (rows : List ℕ) (o : Outcome) (s : Second) where
-  same-answer : withSecond n l rows o s .answers .first ≡ o .answer
-  unfolding withSecond followed alone
-  same-answer = go (gave o)
-    where
-      go : (b : Bool) → cond b (followed n l (rest n l rows) o s) (alone o s) .answers .first ≡ o .answer
-      go true = refl
-      go false = refl
-
-  same-gave : gave (firstOf (withSecond n l rows o s)) ≡ gave o
-  unfolding gave
-  same-gave = ap (λ a. eqb (numbersOf a .number) 0) same-answer
+use Rattle.both.proofs.Pairing.{asked-fits, plain-check, passing}
 
 -- the scratch that a reading is lent does not matter, beyond what it clears
 scratch-again : (n l : ℕ) (rows scratch : List ℕ) (s : Second) → read n l rows (lentToo (over zeros scratch) s) ≡ read n l rows (lentToo scratch s)
@@ -92,47 +75,23 @@ module _ (n l : ℕ) (list : List ℕ) (lent : Lent) (s : Second) where
             }
         go false e = unfold alone in refl
 
-  -- ---- a page was given
+  -- ---- the second, where a page was given
 
   module _ (page : gave (firstOf (spec.both n l list lent s)) ≡ true) where
-    given : gave checked ≡ true
-    unfolding spec.both
-    given = sym (same-gave n l rows checked s) ∙ page
-
-    pub both-passes : checksBoth n l list lent s ≡ passes
-    both-passes = go (checksBoth n l list lent s) (both-early n l list lent s) given
-      where
-        go : (k : Check) → EarlyCheck k → gave (after k n l rows lent) ≡ true → k ≡ passes
-        go passes e g = refl
-        go (refuses a) e g = absurd (true≢false (sym g ∙ (unfold after in none-given (record { answer = a; lent = lent }) (e .0))))
-
-    pub first-given : gave (read n l rows lent) ≡ true
-    unfolding after
-    first-given = rw both-passes at given
-
-    pub followed-both : spec.both n l list lent s ≡ followed n l (rest n l rows) (read n l rows lent) s
-    unfolding spec.both after withSecond
-    followed-both = rw (both-passes, first-given)
-
     -- the one scratch, cleared
     cleared : read n l rows lent .lent .scratch ≡ over zeros (lent .scratch)
     cleared = read-late n l rows lent .scratch
 
     pub second-read : secondOf (spec.both n l list lent s) ≡ read n l (rest n l rows) (lentToo (lent .scratch) s)
-    second-read = ap secondOf followed-both ∙ (unfold followed in rw cleared (scratch-again n l (rest n l rows) (lent .scratch) s))
+    second-read = ap secondOf (followed-both n l list lent s page) ∙ (unfold followed in rw cleared (scratch-again n l (rest n l rows) (lent .scratch) s))
 
-    module _ (b : Below 256 list) where
-      abbrev page₁ : List ℕ
-      page₁ = pageOf n l (pickedRows n rows)
+    has-room : Passing n l list s (lent .scratch)
+    has-room =
+        let passed = both-passes n l list lent s page in
+        passing n l list lent s (asked-fits n l list lent s passed) (plain-check n l list lent s passed) (lent .scratch) refl
 
-      -- the second list, as it was copied
-      pub second-list : secondList l (spec.both n l list lent s) ≡ flat (rowBytes l) (rest n l rows)
-      second-list =
-          ap (secondList l) followed-both ∙ (unfold followed in take-over (flat (rowBytes l) (rest n l rows)) (s .list) (length (rest n l rows) * rowBytes l) (length-flat (rowBytes l) (rest n l rows)))
-
-      has-room : Passing n l list s (lent .scratch)
-      has-room = passing n l list lent s (asked-fits n l list lent s both-passes) (plain-check n l list lent s both-passes) (lent .scratch) refl
-
-      -- its reading is the plain one
-      pub second-reads : secondOf (spec.both n l list lent s) ≡ outcome n l (secondList l (spec.both n l list lent s)) (lentToo (lent .scratch) s)
-      second-reads = second-read ∙ sym (rest-read n l list s (lent .scratch) has-room b page₁) ∙ ap (λ (t : List ℕ). outcome n l t (lentToo (lent .scratch) s)) (sym second-list)
+    -- its reading is the plain one of the second list
+    pub second-reads : Below 256 list → secondOf (spec.both n l list lent s) ≡ outcome n l (secondList l (spec.both n l list lent s)) (lentToo (lent .scratch) s)
+    second-reads b =
+        second-read ∙ sym (rest-read n l list s (lent .scratch) has-room b (pageOf n l (pickedRows n rows)))
+        ∙ ap (λ (t : List ℕ). outcome n l t (lentToo (lent .scratch) s)) (sym (second-list n l list lent s page))

@@ -28,7 +28,8 @@ use Rattle.both.specs.Added.{firstOf, secondOf}
 use Rattle.both.specs.Saved.{pageGiven, secondRows, OfEither}
 use Rattle.both.proofs.Rests.{apart-below, apart-inside}
 use Rattle.both.proofs.Pairing.{plain-check}
-use Rattle.both.proofs.Demand2.{both-passes, first-given, followed-both, second-read, second-list}
+use Rattle.both.proofs.Given.{both-passes, first-given, followed-both, second-list}
+use Rattle.both.proofs.Demand2.{second-read}
 
 -- ---- of rows
 
@@ -89,7 +90,7 @@ module _ (n l : ℕ) (list : List ℕ) (lent : Lent) (s : Second) (b : Below 256
   -- the second list has the rows that don't agree with the page, in their old order, and no others
   pub second-rows : secondRows l (spec.both n l list lent s) ≡ apart l (pageGiven n l (spec.both n l list lent s)) (rowsOf l list)
   second-rows =
-      ap (rowsOf l) (second-list n l list lent s page b) ∙ rows-flat l (rest n l rows) (apart-below l page₁ rows (2 ^ (8 * rowBytes l)) wide)
+      ap (rowsOf l) (second-list n l list lent s page) ∙ rows-flat l (rest n l rows) (apart-below l page₁ rows (2 ^ (8 * rowBytes l)) wide)
       ∙ ap (λ (p : List ℕ). apart l p rows) (sym page-is)
 
   -- each row agrees with the page or is in the second list

@@ -12,18 +12,16 @@ use lib.Pow.{pow-mono}
 use lib.ListN.{length, length-map}
 use Rattle.space.specs.Lists.{Below}
 use Rattle.space.proofs.Lists.{below-more}
-use Rattle.space.proofs.Xor.{⊕-lt}
-use Rattle.octets.specs.Octets.{number, numbers, flat, xorBytes}
+use Rattle.octets.specs.Octets.{number, flat, xorBytes}
 use Rattle.octets.proofs.Xors.{length-xorBytes, xorBytes-below}
 use Rattle.octets.proofs.Numbers.{number-lt}
-use Rattle.octets.proofs.Runs.{flat-below, flat-numbers, numbers-flat}
+use Rattle.octets.proofs.Runs.{flat-below}
 use Rattle.rows.specs.Rows.{shape, symbols, rowBytes, constraint}
-use Rattle.rows.specs.Shift.{shifted, shiftedList, plus}
+use Rattle.rows.specs.Shift.{shifted, shiftedList}
 use Rattle.rows.proofs.Lists.{rows-flat}
 use Rattle.rows.proofs.Sums.{rows-lt}
-use Rattle.rows.proofs.Pages.{length-symbols, symbols-below}
+use Rattle.rows.proofs.Pages.{symbols-below}
 use Rattle.rows.proofs.Shape.{shape-range}
-use Rattle.rows.proofs.Shifts.{flat-plus}
 use Rattle.draw.specs.Draw as draw
 use Rattle.draw.proofs.Laws.{drawn-below}
 use Rattle.reading.specs.Outcome.{Lent, roomy, checks, passes, outcome}
@@ -32,6 +30,7 @@ use Rattle.reading.proofs.Demand3.{demand-3}
 use Rattle.crossing.specs.Held.{listLaid}
 use Rattle.crossing.specs.Caught.{Caught, own, other, framesOf, ownOf, Mixed}
 use Rattle.crossing.specs.Taken.{Take, IsTake, taken}
+use Rattle.crossing.proofs.Added.{same-symbols, symbols-plus}
 use Rattle.crossing.proofs.Moved.{flipped-constraint, moved-row}
 use Rattle.crossing.proofs.Laid.{caught-list}
 use Rattle.crossing.proofs.Flipped.{rowTaken, taken-own}
@@ -47,19 +46,6 @@ unfolding ownOf
 own-takes number n l [] m = tt
 own-takes number n l (own t ∷ caught) m = (m .0, own-takes number n l caught (m .1))
 own-takes number n l (other frame ∷ caught) m = own-takes number n l caught (m .1)
-
--- two pages added bit by bit are added symbol by symbol
-length-plus : (p q : List ℕ) → length p ≡ length q → length (plus p q) ≡ length p
-unfolding plus
-length-plus [] q e = refl
-length-plus (s ∷ p) [] e = absurd (omega arith)
-length-plus (s ∷ p) (t ∷ q) e = omega (arith, length-plus p q (omega arith))
-
-plus-below : (k : ℕ) (p q : List ℕ) → Below (2 ^ k) p → Below (2 ^ k) q → Below (2 ^ k) (plus p q)
-unfolding plus
-plus-below k [] q b d = tt
-plus-below k (s ∷ p) [] b d = tt
-plus-below k (s ∷ p) (t ∷ q) b d = (⊕-lt k s t (b .0) (d .0), plus-below k p q (b .1) (d .1))
 
 -- one page's frames, taken and laid
 module _ (page-number n l : ℕ) (small : page-number < 2 ^ 32) (s : shape n l ≡ true) where
@@ -87,32 +73,12 @@ module _ (page-number n l : ℕ) (small : page-number < 2 ^ 32) (s : shape n l �
         caught-list page-number n l (taken page-number n l page) (rowTaken n l page) (IsTake l) (λ t a. taken-own page-number n l page small s b t a) s caught m most list room
 
   module _ (p q : List ℕ) (sp : length p ≡ n * l) (sq : length q ≡ n * l) (bp : Below 256 p) (bq : Below 256 q) where
-    same-symbols : length (symbols n l p) ≡ length (symbols n l q)
-    same-symbols = length-symbols n l p ∙ sym (length-symbols n l q)
-
-    symbols-plus : symbols n l (xorBytes p q) ≡ plus (symbols n l p) (symbols n l q)
-    symbols-plus =
-        ap (symbols n l) (sym (flat-plus l (symbols n l p) (symbols n l q) same-symbols ∙ ap₂ xorBytes (spelled p sp bp) (spelled q sq bq)))
-        ∙ back
-      where
-        spelled : (page : List ℕ) → length page ≡ n * l → Below 256 page → flat l (symbols n l page) ≡ page
-        spelled page size b = unfold symbols in flat-numbers l n page size b
-
-        both : List ℕ
-        both = plus (symbols n l p) (symbols n l q)
-
-        many : length both ≡ n
-        many = length-plus (symbols n l p) (symbols n l q) same-symbols ∙ length-symbols n l p
-
-        back : symbols n l (flat l both) ≡ both
-        back = unfold symbols in ap (λ (m : ℕ). numbers l m (flat l both)) (sym many) ∙ numbers-flat l both (plus-below (8 * l) (symbols n l p) (symbols n l q) (low p sp bp) (low q sq bq))
-
     moved-rows : (ts : List Take) → AllTakes l ts → map (shifted l (symbols n l (xorBytes p q))) (map (rowTaken n l p) ts) ≡ map (rowTaken n l q) ts
     unfolding rowTaken
     moved-rows [] a = refl
     moved-rows (t ∷ ts) a =
         ap₂ (λ x xs. x ∷ xs)
-        (rw symbols-plus (moved-row l (symbols n l p) (symbols n l q) (low p sp bp) (low q sq bq) same-symbols (draw.constraint n (t .seed)) (number (t .flips)) (flips-lt p sp bp t (a .0))))
+        (rw (symbols-plus n l p q sp sq bp bq) (moved-row l (symbols n l p) (symbols n l q) (low p sp bp) (low q sq bq) (same-symbols n l p q sp sq bp bq) (draw.constraint n (t .seed)) (number (t .flips)) (flips-lt p sp bp t (a .0))))
         (moved-rows ts (a .1))
 
     pub crossing-3 : (caught : List (Caught Take)) → Mixed page-number n l (IsTake l) caught → length (ownOf caught) ≤ 512

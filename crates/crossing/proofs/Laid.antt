@@ -4,9 +4,8 @@ use mathlib.Core.Path.{_≡_, refl, sym, ap, _∙_}
 use Prim.Native.Nat.{ℕ, suc, _+_, _*_, _≤_, _<_}
 use native.Mathlib.Nat.{mul-suc, mul-le-mul-left}
 use native.Mathlib.Omega.{arith}
-use mathlib.Core.Bool.{Bool, true, false, cond, not, _&&_, true≢false}
+use mathlib.Core.Bool.{true}
 use mathlib.Core.List.{List, [], _∷_, _++_, map, append-nil}
-use lib.Dec.{eqb}
 use lib.ListN.{length, take, drop, length-append}
 use lib.Seq.{append-snoc, length-take-le, take-append-add, take-at}
 use Rattle.octets.specs.Octets.{bytes, flat, lay}
@@ -15,14 +14,13 @@ use Rattle.octets.proofs.Runs.{flat-append}
 use Rattle.octets.proofs.Lay.{length-lay}
 use Rattle.rows.specs.Rows.{shape, rowBytes}
 use Rattle.frame.specs.declared.Frame.the-variants as frames
-use Rattle.laying.specs.declared.Laid.{Laid}
 use Rattle.laying.specs.declared.Laid.the-variants as laids
 use Rattle.frame.specs.Reading.{reading}
-use Rattle.frame.specs.Numbers.{isGood}
-use Rattle.laying.specs.Laying.{samePage, placing, laid, numberOf, listAfter, frameRow}
+use Rattle.laying.specs.Laying.{laid, numberOf, listAfter, frameRow}
 use Rattle.laying.proofs.Laying.{laid-placing, placing-row}
 use Rattle.crossing.specs.Held.{Held, offered, offeredAll, listHeld, listLaid, blank}
-use Rattle.crossing.specs.Caught.{Caught, own, other, framesOf, ownOf, ofPage, Mixed}
+use Rattle.crossing.proofs.Refused.{refused-offered}
+use Rattle.crossing.specs.Caught.{Caught, own, other, framesOf, ownOf, Mixed}
 
 -- the front of a list, up to a part that is laid there
 take-laid : (at : ℕ) (new old : List ℕ) → at ≤ length old → take (at + length new) (lay at new old) ≡ take at old ++ new
@@ -50,39 +48,9 @@ next-inside l total rows s h less =
     let fewer : s .rows < total = omega (arith, h .many) in
     omega (arith, mul-le-mul-left (8 + l) fewer, mul-suc (8 + l) (s .rows), h .room)
 
--- ---- frames that are refused
+-- ---- frames of the page
 
 module _ (number n l : ℕ) where
-  -- a frame that breaks the layout, or is a good one of another page number or shape, is refused wherever it is to go
-  pub refused-laid : (frame : List ℕ) → ofPage number n l frame ≡ false → (arrival : ℕ) (list : List ℕ) → eqb (numberOf (laid frame number n l arrival list)) 0 ≡ false
-  unfolding ofPage laid numberOf
-  refused-laid frame e arrival list = go (shape n l) (isGood (reading frame)) refl (samePage (reading frame) number n l) e
-    where
-      go : (s g : Bool) → isGood (reading frame) ≡ g → (o : Bool) → (g && o) ≡ false
-          → eqb (numberOf (cond (not s) laids.Shape (cond (not g) (laids.Refused (reading frame)) (cond (not o) laids.OtherPage (placing l arrival list))))) 0 ≡ false
-      go false g p o e = refl
-      go true false p o e = p
-      go true true p false e = refl
-      go true true p true e = absurd (true≢false e)
-
-  same-list : (a : Laid) (at : ℕ) (row list : List ℕ) → eqb (numberOf a) 0 ≡ false → listAfter a at row list ≡ list
-  unfolding listAfter numberOf
-  same-list laids.Row at row list e = absurd (true≢false e)
-  same-list laids.Shape at row list e = refl
-  same-list (laids.Refused f) at row list e = refl
-  same-list laids.OtherPage at row list e = refl
-  same-list laids.Full at row list e = refl
-  same-list laids.Room at row list e = refl
-
-  -- and changes nothing
-  pub refused-offered : (frame : List ℕ) → ofPage number n l frame ≡ false → (s : Held) → offered number n l frame s ≡ s
-  unfolding offered
-  refused-offered frame e s =
-      let refused = refused-laid frame e (s .rows) (s .list) in
-      rw (refused, same-list (laid frame number n l (s .rows) (s .list)) (rowBytes l * s .rows) (frameRow frame) (s .list) refused)
-
-  -- ---- frames of the page
-
   -- a frame of the page, read right: its row is x
   pub record Own (frame : List ℕ) (x : ℕ) : Type 0 where
     pub seed : ℕ
@@ -132,7 +100,7 @@ module _ (number n l : ℕ) where
     caught-holds (own a ∷ caught) m rows s h fit =
         rw (append-snoc rows (row a) (map row (ownOf caught))) at (caught-holds caught (m .1) (rows ++ (row a ∷ [])) (offered number n l (make a) s)
         (own-holds (make a) (row a) (owns a (m .0)) rows s h (omega arith)) (omega (arith, length-append rows (row a ∷ []))))
-    caught-holds (other frame ∷ caught) m rows s h fit = caught-holds caught (m .1) rows (offered number n l frame s) (rw (refused-offered frame (m .0) s) h) fit
+    caught-holds (other frame ∷ caught) m rows s h fit = caught-holds caught (m .1) rows (offered number n l frame s) (rw (refused-offered number n l frame (m .0) s) h) fit
 
   -- so the list that is read has the rows of the page's own frames, in order, and no others
   pub caught-list : {A : Type 0} (make : A → List ℕ) (row : A → ℕ) (Right : A → Type 0) → ((a : A) → Right a → Own (make a) (row a)) → shape n l ≡ true

@@ -1,5 +1,7 @@
 pub mod Sent
 pub mod Moved
+pub mod Added
+pub mod Refused
 pub mod Laid
 pub mod Demand2
 pub mod Flipped

@@ -15,7 +15,7 @@ use Rattle.frame.specs.Numbers.{numberOf as numberOf-of, placeOf as placeOf-of}
 use Rattle.laying.specs.Laying.{samePage, laid, numberOf, placeOf, listAfter, frameRow}
 use Rattle.crossing.specs.Held.{Held, blank, offered, offeredAll}
 use Rattle.crossing.specs.Caught.{ofPage}
-use Rattle.crossing.proofs.Laid.{refused-offered}
+use Rattle.crossing.proofs.Refused.{refused-offered}
 use Rattle.text.specs.Hex.{pairs, bad}
 use Rattle.lines.specs.declared.Page.{Page}
 use Rattle.lines.specs.declared.Expected.the-variants.{Nothing, Only}
