@@ -12,7 +12,7 @@ pub struct Base {
 
 pub const BASES: usize = 4;
 
-pub fn at(k: usize) -> Base
+pub(crate) fn at(k: usize) -> Base
     ensures { λ r. ⌜ (r .n ≤ 64) × (r .l ≤ 32) ⌝ }
 {
     match k {
@@ -60,7 +60,7 @@ fn write_from(page: &[u8], b: Base, room: &mut [u8])
 }
 
 // The frame of base k, at the start of room.
-pub fn write(k: usize, b: Base, room: &mut [u8])
+pub(crate) fn write(k: usize, b: Base, room: &mut [u8])
     requires { ⌜ (b .n ≤ 64) × (b .l ≤ 32) ⌝ }
 {
     let mut page = [0u8; 2048];
@@ -69,7 +69,7 @@ pub fn write(k: usize, b: Base, room: &mut [u8])
 }
 
 // What laying i of a whole frame expects: its page, another one, or a shape out of range.
-pub fn expected(b: Base, i: usize) -> Base {
+pub(crate) fn expected(b: Base, i: usize) -> Base {
     let mut e = b;
     match i {
         6 => e.page = std::num::wrapping_add_u32(b.page, 1),

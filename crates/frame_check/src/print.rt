@@ -47,7 +47,7 @@ fn numbers(numbers: Numbers) {
 }
 
 // The numbers, and the payload.
-pub fn reading(frame: &[u8]) {
+pub(crate) fn reading(frame: &[u8]) {
     numbers(frame::numbers_of(frame::read(frame)));
     let payload = frame::payload(frame);
     if payload.len() == 0 {
@@ -74,7 +74,7 @@ fn laying_in(list: &mut [u8], frame: &[u8], b: Base, arrival: usize, size: usize
 }
 
 // Number, place and the whole of a fresh list afterwards, of bytes 170 before.
-pub fn laying(frame: &[u8], b: Base, arrival: usize, size: usize)
+pub(crate) fn laying(frame: &[u8], b: Base, arrival: usize, size: usize)
     requires { ⌜ size ≤ 125 ⌝ }
 {
     let mut list = [170u8; LIST];
