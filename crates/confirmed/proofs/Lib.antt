@@ -1,0 +1,9 @@
+pub mod Counts
+pub mod Agreeing
+pub mod More
+pub mod Misread
+pub mod Marks
+pub mod Split
+pub mod Extending
+pub mod Full
+pub mod Swapped
