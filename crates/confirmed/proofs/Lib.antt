@@ -7,3 +7,6 @@ pub mod Split
 pub mod Extending
 pub mod Full
 pub mod Swapped
+pub mod Unconfirmed
+pub mod Means
+pub mod Lists
