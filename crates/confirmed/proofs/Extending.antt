@@ -1,7 +1,7 @@
 -- A value for each of n rows with independent constraints, extended to every row: the sum of the values of those rows whose constraints sum
 -- to its own. It respects sums. Added to each row, values without a constraint give a one-to-one map that respects sums and keeps constraints.
 -- Assumes nothing.
-use mathlib.Core.Path.{_≡_, refl, sym, ap, ap₂, _∙_}
+use mathlib.Core.Path.{_≡_, sym, ap, _∙_}
 use Prim.Native.Nat.{ℕ, _*_, _%_, _^_, _<_}
 use native.Mathlib.Nat.{mod-lt, mod-eq-of-lt, div-eq-of-lt}
 use mathlib.Core.Bool.{true}
@@ -11,7 +11,7 @@ use lib.ListN.{length, length-map}
 use lib.Pow.{pow-pos}
 use Rattle.space.specs.Lists.{Below}
 use Rattle.space.specs.Space.{_⊕_, sumOf, spans, setOf, independent}
-use Rattle.space.proofs.Lists.{below-map, below-map-at, map-both}
+use Rattle.space.proofs.Lists.{below-map, below-map-at}
 use Rattle.space.proofs.Xor.{⊕-zero, ⊕-four}
 use Rattle.space.proofs.Sets.{sum-lt, setOf-unique, sum-setOf-⊕, setAt, length-setAt, sum-setAt}
 use Rattle.space.proofs.Dimension.{spans-all}
@@ -61,15 +61,12 @@ module _ (n l : ℕ) (ks : List ℕ) (inside : Below (2 ^ n) (map (constraint l)
   moved-own {k} m = ap (λ (x : ℕ). k ⊕ x) (extended-own m)
 
   module _ (bare : (k : ℕ) → value k < 2 ^ (8 * l)) where
-    moved-constraint : (v : ℕ) → constraint l (moved v) ≡ constraint l v
+    pub moved-constraint : (v : ℕ) → constraint l (moved v) ≡ constraint l v
     unfolding moved
     moved-constraint v = constraint-⊕ l v (extended (constraint l v)) ∙ ap (λ (x : ℕ). constraint l v ⊕ x) none ∙ ⊕-zero (constraint l v)
       where
         none : constraint l (extended (constraint l v)) ≡ 0
         none = unfold constraint extended in div-eq-of-lt (sum-lt (8 * l) (map value ks) (below-map (2 ^ (8 * l)) value bare ks) _)
-
-    pub moved-constraints : (vs : List ℕ) → map (constraint l) (map moved vs) ≡ map (constraint l) vs
-    moved-constraints = map-both (constraint l) moved (constraint l) moved-constraint
 
     -- only zero becomes zero
     pub moved-inj : (v : ℕ) → moved v ≡ 0 → v ≡ 0

@@ -6,7 +6,10 @@ pub mod Marks
 pub mod Split
 pub mod Extending
 pub mod Full
+pub mod Moves
 pub mod Swapped
 pub mod Unconfirmed
 pub mod Means
 pub mod Lists
+pub mod Alike
+pub mod Worked

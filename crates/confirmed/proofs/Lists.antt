@@ -1,26 +1,27 @@
 -- The laws of confirmed pages for lists of bytes and the whole outcome, as a phone app sees it: the page is the front of its buffer, and whether it
 -- is confirmed is read off the roles and the uses.
 -- Assumes nothing.
-use mathlib.Core.Path.{_≡_, refl, sym, ap, ap₂, _∙_}
-use Prim.Native.Nat.{ℕ, _*_, _^_, _≤_}
-use mathlib.Core.Bool.{true, false}
-use mathlib.Core.List.{List, _∷_, _++_, map}
+use mathlib.Core.Path.{_≡_, sym, ap, ap₂, _∙_}
+use Prim.Native.Nat.{ℕ, _*_, _<_}
+use mathlib.Core.Bool.{true}
+use mathlib.Core.List.{List}
 use mathlib.Core.Logic.{_↔_}
 use lib.ListN.{length, take}
-use Rattle.space.specs.Lists.{count, Below}
+use Rattle.space.specs.Lists.{Below}
 use Rattle.octets.specs.Octets.{numbers, flat}
 use Rattle.octets.proofs.Runs.{length-flat, flat-below, numbers-flat, flat-numbers, take-over}
-use Rattle.rows.specs.Rows.{symbols, rowCount, rowsOf, constraint}
+use Rattle.rows.specs.Rows.{symbols, rowCount, rowsOf}
 use Rattle.rows.proofs.Shape.{shape-range}
 use Rattle.rows.proofs.Lists.{length-rowsOf}
 use Rattle.rows.proofs.Pages.{length-symbols, symbols-below}
-use Rattle.reading.specs.Reading.{kept}
-use Rattle.reading.specs.Outcome.{Lent, usesMarks, rolesMarks, telling, ended, solved, read, after, outcome, gave}
+use Rattle.reading.specs.Reading.{kept, rank}
+use Rattle.reading.specs.Outcome.{Lent, usesMarks, rolesMarks, telling, ended, solved, after, outcome, gave}
 use Rattle.reading.proofs.Kept.{length-kept}
 use Rattle.reading.proofs.Spread.{length-spread, length-marks}
 use Rattle.reading.proofs.Checks.{Passed, passed, inside}
 use Rattle.reading.proofs.Given.{given-passes, given-read}
-use Rattle.confirmed.specs.Confirmed.{confirmed, confirmedMarks, confirms, misread, IsPage, GivesPage, given, Certain, CertainList}
+use Rattle.confirmed.specs.Confirmed.{confirmed, confirmedMarks, confirms, IsPage, GivesPage, given, Certain, CertainList}
+use Rattle.confirmed.proofs.More.{more-confirms}
 use Rattle.confirmed.proofs.Marks.{marks-confirmed}
 use Rattle.confirmed.proofs.Misread.{one-misread-count}
 use Rattle.confirmed.proofs.Unconfirmed.{gives-exactly}
@@ -36,7 +37,7 @@ module _ (n l : ℕ) where
   unfolding symbols
   spelled page size b = flat-numbers l n page size b
 
-  cut-back : (page : List ℕ) → IsPage n l page → symbols n l (flat l page) ≡ page
+  pub cut-back : (page : List ℕ) → IsPage n l page → symbols n l (flat l page) ≡ page
   unfolding symbols
   cut-back page p = ap (λ (m : ℕ). numbers l m (flat l page)) (sym (p .size)) ∙ numbers-flat l page (p .symbols)
 
@@ -77,6 +78,10 @@ module _ (n l : ℕ) (list : List ℕ) (lent : Lent) (e : gave (outcome n l list
       roles = unfold rolesMarks in length-spread 0 (kept rows) _ ∙ length-kept rows ∙ length-rowsOf l list
 
   -- ---- the laws
+
+  -- with a rank over n it always is
+  pub list-more-confirms : n < rank rows → confirms (rowCount l list) (outcome n l list lent) ≡ true
+  list-more-confirms h = list-confirms ∙ more-confirms n rows h (list-gives .chosen)
 
   -- confirmed, and one row misread at most: the page is the one that was sent
   pub list-one-misread : confirms (rowCount l list) (outcome n l list lent) ≡ true → CertainList n l list (outcome n l list lent)

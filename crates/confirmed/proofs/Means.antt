@@ -13,7 +13,7 @@ use lib.ListN.{length, getD, take, drop}
 use lib.Pow.{pow-lt}
 use lib.Seq.{split-at, length-take-le}
 use borrow.Author.Tests.{ltb-false}
-use Rattle.space.specs.Lists.{count, All, Below}
+use Rattle.space.specs.Lists.{All, Below}
 use Rattle.space.specs.Space.{_⊕_}
 use Rattle.space.proofs.Xor.{⊕-self, ⊕-zero, ⊕-cancel}
 use Rattle.rows.specs.Rows.{constraint, agrees}
@@ -22,7 +22,7 @@ use Rattle.reading.specs.Reading.{rank, few, pickedRows}
 use Rattle.reading.specs.Outcome.{usesMarks, rolesMarks, telling}
 use Rattle.reading.proofs.Spread.{marks-rows}
 use Rattle.reading.proofs.Page.{length-pageOf, pageOf-below}
-use Rattle.confirmed.specs.Confirmed.{confirmed, misread, IsPage, GivesPage, given, Certain, Unused}
+use Rattle.confirmed.specs.Confirmed.{confirmed, IsPage, GivesPage, given, Certain, Unused}
 use Rattle.confirmed.proofs.Counts.{all-split}
 use Rattle.confirmed.proofs.More.{more-confirms}
 use Rattle.confirmed.proofs.Marks.{marks-confirmed, alone-at}

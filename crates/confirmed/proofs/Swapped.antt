@@ -1,13 +1,12 @@
--- In a list of rank n, a kept row that has no use, with another payload: the same rows are kept, with the same uses, and the same picked. For the
--- change, as the value of that row and 0 for the other kept rows, extends to a map of rows that respects sums; it changes no other row of the
--- list, since none has that row in its set.
+-- In a list of rank n, a kept row that has no use, with another payload: a map that respects sums takes the old rows to the new. It is the change, as
+-- the value of that row and 0 for the other kept rows, extended to all rows; no other row of the list has that row in its set, so it stays.
 -- Assumes nothing.
 use mathlib.Core.Path.{_≡_, refl, sym, ap, ap₂, _∙_}
 use Prim.Native.Nat.{ℕ, _+_, _*_, _^_, _<_}
 use native.Mathlib.Nat.{zero-add}
 use native.Mathlib.Omega.{arith}
 use mathlib.Core.Bool.{Bool, true, false, cond, not, true≢false}
-use mathlib.Core.List.{List, [], _∷_, _++_, map, List·Memᴰ}
+use mathlib.Core.List.{List, [], _∷_, _++_, map}
 use lib.Dec.{eqb}
 use lib.ListN.{length, getD, length-append}
 use lib.Pow.{pow-pos}
@@ -16,42 +15,20 @@ use Rattle.space.specs.Lists.{All, Below}
 use Rattle.space.specs.Space.{_⊕_, sumOf, spans, setOf, independent}
 use Rattle.space.proofs.Lists.{map-append, all-in, all-at}
 use Rattle.space.proofs.Xor.{⊕-self, ⊕-zero, ⊕-cancel}
-use Rattle.space.proofs.Sets.{spans-own, first-free, rest-free, setOf-sum}
+use Rattle.space.proofs.Sets.{first-free, setOf-sum}
 use Rattle.space.proofs.Linear.{map-sum}
 use Rattle.rows.specs.Rows.{constraint}
 use Rattle.rows.proofs.Sums.{constraint-⊕, row-lt}
-use Rattle.reading.specs.Reading.{kept, keptRows, otherRows, rank, uses, picked, pickedRows, singular}
+use Rattle.reading.specs.Reading.{keptRows, otherRows, rank, singular}
 use Rattle.reading.proofs.Kept.{kept-independent, others-span}
-use Rattle.reading.proofs.Linear.{map-kept, map-rank, map-uses, map-picked, map-pickedRows}
 use Rattle.confirmed.specs.Confirmed.{Unused}
 use Rattle.confirmed.proofs.Counts.{none-pass, all-split}
 use Rattle.confirmed.proofs.Marks.{unused-kept, unused-use}
 use Rattle.confirmed.proofs.Misread.{uses-at}
-use Rattle.confirmed.proofs.Split.{keptTail, kept-split, elsewhere}
-use Rattle.confirmed.proofs.Extending.{moved, moved-⊕, moved-own, moved-constraints, moved-inj}
+use Rattle.confirmed.proofs.Split.{sum-without, none-same, back-free, keptTail, kept-split, elsewhere}
+use Rattle.confirmed.proofs.Extending.{moved, moved-⊕, moved-own, moved-constraint, moved-inj}
+use Rattle.confirmed.proofs.Moves.{Moves}
 use Rattle.confirmed.proofs.Full.{full-free, full-inside}
-
--- a sum without the one vector is the same with another in its place
-sum-without : (xs : List ℕ) (a b : ℕ) (ys : List ℕ) (set : List Bool) → getD set (length xs) false ≡ false → sumOf (xs ++ a ∷ ys) set ≡ sumOf (xs ++ b ∷ ys) set
-unfolding sumOf
-sum-without [] a b ys [] e = refl
-sum-without [] a b ys (true ∷ set) e = absurd (true≢false e)
-sum-without [] a b ys (false ∷ set) e = refl
-sum-without (x ∷ xs) a b ys [] e = refl
-sum-without (x ∷ xs) a b ys (true ∷ set) e = ap (λ (s : ℕ). x ⊕ s) (sum-without xs a b ys set e)
-sum-without (x ∷ xs) a b ys (false ∷ set) e = sum-without xs a b ys set e
-
--- a vector that others do not span is none of them
-none-same : (r : ℕ) (ks : List ℕ) → (spans ks r ≡ true → ⊥) → All (λ k. not (eqb k r)) ks
-none-same r ks free = all-in (λ k. not (eqb k r)) ks (λ k m. go k (all-at (spans ks) ks (spans-own ks) k m) (eqb k r) refl)
-  where
-    go : (k : ℕ) → spans ks k ≡ true → (b : Bool) → eqb k r ≡ b → not b ≡ true
-    go k s true e = absurd (free (ap (spans ks) (sym (eqb-true k r e)) ∙ s))
-    go k s false e = refl
-
-back-free : (xs ys : List ℕ) → independent (xs ++ ys) ≡ true → independent ys ≡ true
-back-free [] ys i = i
-back-free (x ∷ xs) ys i = back-free xs ys (rest-free x (xs ++ ys) i)
 
 module _ (n l : ℕ) (before : List ℕ) (r : ℕ) (after : List ℕ) (inside : Below (2 ^ n) (map (constraint l) (before ++ r ∷ after)))
     (full : rank (before ++ r ∷ after) ≡ n) (sound : singular n l (before ++ r ∷ after) ≡ false) (u : Unused before r after)
@@ -93,6 +70,10 @@ module _ (n l : ℕ) (before : List ℕ) (r : ℕ) (after : List ℕ) (inside : 
   inj : (v : ℕ) → φ v ≡ 0 → v ≡ 0
   unfolding φ
   inj = moved-inj n l (keptRows rows) (full-inside n l rows inside full sound) (full-free n l rows inside full sound) size value value-lt
+
+  keep : (v : ℕ) → constraint l (φ v) ≡ constraint l v
+  unfolding φ
+  keep = moved-constraint n l (keptRows rows) (full-inside n l rows inside full sound) (full-free n l rows inside full sound) size value value-lt
 
   -- ---- the rows that stay
 
@@ -151,30 +132,5 @@ module _ (n l : ℕ) (before : List ℕ) (r : ℕ) (after : List ℕ) (inside : 
       let each : All stays before × All stays after = elsewhere before r after (unused-kept before r after u) stays before-stay after-stay others-stay in
       around before after (each .0) (each .1)
 
-  -- ---- what is read
-
-  pub swapped-kept : kept (before ++ other ∷ after) ≡ kept (before ++ r ∷ after)
-  swapped-kept = ap kept (sym moved-rows) ∙ map-kept φ add inj rows
-
-  pub swapped-rank : rank (before ++ other ∷ after) ≡ n
-  swapped-rank = ap rank (sym moved-rows) ∙ map-rank φ add inj rows ∙ full
-
-  pub swapped-uses : uses (before ++ other ∷ after) ≡ uses (before ++ r ∷ after)
-  swapped-uses = ap uses (sym moved-rows) ∙ map-uses φ add inj rows
-
-  pub swapped-picked : picked n (before ++ other ∷ after) ≡ picked n (before ++ r ∷ after)
-  swapped-picked = ap (picked n) (sym moved-rows) ∙ map-picked φ add inj n rows
-
-  pub swapped-sound : singular n l (before ++ other ∷ after) ≡ false
-  swapped-sound = ap (singular n l) (sym moved-rows) ∙ unfold singular in ap (λ ps. not (independent ps)) constraints ∙ sound
-    where
-      constraints : map (constraint l) (pickedRows n (map φ rows)) ≡ map (constraint l) (pickedRows n rows)
-      constraints = ap (map (constraint l)) (map-pickedRows φ add inj n rows) ∙ unfold φ in
-          moved-constraints n l (keptRows rows) (full-inside n l rows inside full sound) (full-free n l rows inside full sound) size value value-lt (pickedRows n rows)
-
-  pub swapped-inside : Below (2 ^ n) (map (constraint l) (before ++ other ∷ after))
-  swapped-inside = rw constraints inside
-    where
-      constraints : map (constraint l) (before ++ other ∷ after) ≡ map (constraint l) (before ++ r ∷ after)
-      constraints = map-append (constraint l) before (other ∷ after) ∙ ap (λ (c : ℕ). map (constraint l) before ++ c ∷ map (constraint l) after) same
-          ∙ sym (map-append (constraint l) before (r ∷ after))
+  pub swapped : Moves l (before ++ r ∷ after) (before ++ other ∷ after)
+  swapped = record { move = φ; add = add; inj = inj; keep = keep; rows = moved-rows }

@@ -1,10 +1,10 @@
 -- Where the rank is n and a kept row has no use, nothing tells whether it was misread: with any other payload in it the outcome is the same but
 -- for the page, and the page is another one.
 -- Assumes nothing.
-use mathlib.Core.Path.{_≡_, refl, sym, ap, ap₂, _∙_}
+use mathlib.Core.Path.{_≡_, sym, ap, ap₂, _∙_}
 use Prim.Native.Nat.{ℕ, _^_}
 use native.Mathlib.Omega.{arith}
-use mathlib.Core.Bool.{true, false}
+use mathlib.Core.Bool.{true}
 use mathlib.Core.List.{List, _∷_, _++_, map}
 use mathlib.Core.Logic.{_↔_}
 use lib.ListN.{length, length-append}
@@ -17,13 +17,14 @@ use Rattle.rows.proofs.Pages.{agrees-made}
 use Rattle.reading.specs.declared.Answer.the-variants as answer
 use Rattle.reading.specs.Answer.{numbersOf}
 use Rattle.reading.specs.Reading.{rank, few, picked}
-use Rattle.reading.specs.Outcome.{Lent, Outcome, usesMarks, rolesMarks, telling, ended, solved, read, gave}
+use Rattle.reading.specs.Outcome.{Lent, usesMarks, rolesMarks, telling, ended, solved, read, gave}
 use Rattle.reading.proofs.Pick.{tie-never, length-picked, not-few, no-tie}
 use Rattle.reading.proofs.Given.{Given, page-given}
 use Rattle.confirmed.specs.Confirmed.{GivesPage, given, Unused, Untold}
 use Rattle.confirmed.proofs.Counts.{all-split}
 use Rattle.confirmed.proofs.Full.{rank-agrees, rank-agreement}
-use Rattle.confirmed.proofs.Swapped.{swapped-kept, swapped-rank, swapped-uses, swapped-picked, swapped-sound, swapped-inside}
+use Rattle.confirmed.proofs.Moves.{Moves, same-kept, same-rank, same-uses, same-constraints, same-picked, same-singular}
+use Rattle.confirmed.proofs.Swapped.{swapped}
 
 -- ---- a page is given
 
@@ -59,27 +60,29 @@ module _ (n l : ℕ) (before : List ℕ) (r : ℕ) (after : List ℕ) (inside : 
   abbrev new : List ℕ
   new = before ++ other ∷ after
 
-  new-full : rank new ≡ n
-  new-full = swapped-rank n l before r after inside full (g .sound) u other same
+  moves : Moves l old new
+  moves = swapped n l before r after inside full (g .sound) u other same
 
-  new-inside : Below (2 ^ n) (map (constraint l) new)
-  new-inside = swapped-inside n l before r after inside full (g .sound) u other same
+  new-full : rank new ≡ n
+  new-full = same-rank l old new moves ∙ full
+
+  pub swapped-inside : Below (2 ^ n) (map (constraint l) new)
+  swapped-inside = rw (same-constraints l old new moves) inside
 
   -- a page is given again
   pub swapped-gives : GivesPage n l new
   swapped-gives = record {
     enough = not-few n new new-full;
     chosen = no-tie n new new-full;
-    sound = swapped-sound n l before r after inside full (g .sound) u other same;
+    sound = same-singular l old new moves n ∙ g .sound;
   }
 
   swapped-read : (lent : Lent) → read n l new lent ≡ ended n old lent (answer.Page n (length old)) telling (flat l (given n l new))
-  swapped-read lent = full-read n l new new-inside new-full swapped-gives lent ∙ marks (length new) (length-append before (other ∷ after) ∙ sym (length-append before (r ∷ after))) (flat l (given n l new))
+  swapped-read lent = full-read n l new swapped-inside new-full swapped-gives lent ∙ marks (length new) (length-append before (other ∷ after) ∙ sym (length-append before (r ∷ after))) (flat l (given n l new))
     where
       marks : (m : ℕ) → m ≡ length old → (page : List ℕ) → ended n new lent (answer.Page n m) telling page ≡ ended n old lent (answer.Page n (length old)) telling page
       marks m e page = unfold ended usesMarks rolesMarks in
-          rw (swapped-kept n l before r after inside full (g .sound) u other same, swapped-uses n l before r after inside full (g .sound) u other same,
-          swapped-picked n l before r after inside full (g .sound) u other same, e)
+          rw (same-kept l old new moves, same-uses l old new moves, same-picked l old new moves n, e)
 
   pub unconfirmed : (lent : Lent) → Untold (read n l old lent) (read n l new lent)
   unfolding ended
@@ -95,7 +98,7 @@ module _ (n l : ℕ) (before : List ℕ) (r : ℕ) (after : List ℕ) (inside : 
 
   -- all rows agree with the new page
   pub other-agree : All (agrees l (given n l new)) new
-  other-agree = rank-agrees n l new new-inside new-full (swapped-gives .sound)
+  other-agree = rank-agrees n l new swapped-inside new-full (swapped-gives .sound)
 
   -- and it is another: only the same row gives the same page
   pub other-page : given n l new ≡ given n l old → other ≡ r

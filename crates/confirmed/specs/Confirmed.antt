@@ -8,7 +8,7 @@ use mathlib.Core.List.{List, [], _∷_, _++_}
 use lib.Dec.{eqb}
 use lib.ListN.{length, getD, take}
 use Rattle.space.specs.Lists.{select, count, Below}
-use Rattle.rows.specs.Rows.{agrees, symbols, rowCount, rowsOf}
+use Rattle.rows.specs.Rows.{agrees, symbols, rowsOf}
 use Rattle.reading.specs.Reading.{uses, picked, pickedRows, pageOf, few, tie, singular}
 use Rattle.reading.specs.Outcome.{Outcome, usesMarks}
 
