@@ -86,7 +86,7 @@ module _ (n l : ℕ) (list : List ℕ) (lent : Lent) (e : gave (outcome n l list
   -- confirmed, and one row misread at most: the page is the one that was sent
   pub list-one-misread : confirms (rowCount l list) (outcome n l list lent) ≡ true → CertainList n l list (outcome n l list lent)
   list-one-misread c page size b one =
-      list-page ∙ ap (flat l) (one-misread-count n l rows (symbols n l page) (inside n l list lent P) list-gives (sym list-confirms ∙ c) (bytes-page n l page size b) one)
+      list-page ∙ ap (flat l) (one-misread-count n l rows (inside n l list lent P) list-gives (sym list-confirms ∙ c) (symbols n l page) (bytes-page n l page size b) one)
       ∙ spelled n l page size b
 
   -- and confirmed is what it is exactly when this holds

@@ -89,7 +89,7 @@ module _ (n l : ℕ) (rows : List ℕ) (wide : 1 ≤ l) (inside : Below (2 ^ n) 
           at before r after u rows e inside g (unconfirmed-full n l rows g c)
 
   pub confirmed-means : (confirmed n rows ≡ true) ↔ Certain n l rows
-  confirmed-means = (λ c page p one. one-misread-count n l rows page inside g c p one, λ only. go (confirmed n rows) refl only)
+  confirmed-means = (one-misread-count n l rows inside g, λ only. go (confirmed n rows) refl only)
     where
       go : (b : Bool) → confirmed n rows ≡ b → Certain n l rows → confirmed n rows ≡ true
       go true e only = e

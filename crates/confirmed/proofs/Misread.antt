@@ -17,7 +17,7 @@ use Rattle.reading.specs.Reading.{kept, keptRows, otherRows, rank, usesOf, uses
 use Rattle.reading.proofs.Kept.{length-kept, others-span}
 use Rattle.reading.proofs.Pick.{length-uses, picked-size, picked-inside}
 use Rattle.reading.proofs.Page.{page-unique}
-use Rattle.confirmed.specs.Confirmed.{confirmed, misread, IsPage, GivesPage, given}
+use Rattle.confirmed.specs.Confirmed.{confirmed, misread, IsPage, GivesPage, given, Certain}
 use Rattle.confirmed.proofs.Counts.{pass-none, some-passes, count-at, count-append, count-split, tabulate-at, select-along}
 use Rattle.confirmed.proofs.Agreeing.{misread-is, agrees-not, none-misread, sum-misread}
 use Rattle.confirmed.proofs.More.{confirmed-exactly}
@@ -69,9 +69,8 @@ module _ (l : ℕ) (page rows : List ℕ) (one : count (misread l page) rows ≤
 -- ---- the page
 
 -- one row misread at most
-pub one-misread-count : (n l : ℕ) (rows page : List ℕ) → Below (2 ^ n) (map (constraint l) rows) → GivesPage n l rows → confirmed n rows ≡ true
-    → IsPage n l page → count (misread l page) rows ≤ 1 → given n l rows ≡ page
-one-misread-count n l rows page inside g sure p one =
+pub one-misread-count : (n l : ℕ) (rows : List ℕ) → Below (2 ^ n) (map (constraint l) rows) → GivesPage n l rows → confirmed n rows ≡ true → Certain n l rows
+one-misread-count n l rows inside g sure page p one =
     page-unique n l (pickedRows n rows) (picked-inside n l (2 ^ n) rows inside) free (picked-size n rows (g .chosen)) page (p .size) (confirmed-agree l page rows one n sure)
   where
     free : independent (map (constraint l) (pickedRows n rows)) ≡ true
@@ -96,4 +95,4 @@ pub one-misread : (n l : ℕ) (before : List ℕ) (b : ℕ) (after page : List �
     → GivesPage n l (before ++ b ∷ after) → confirmed n (before ++ b ∷ after) ≡ true
     → IsPage n l page → All (agrees l page) before → All (agrees l page) after → given n l (before ++ b ∷ after) ≡ page
 one-misread n l before b after page inside g sure p good more =
-    one-misread-count n l (before ++ b ∷ after) page inside g sure p (all-but-one l before b after page good more)
+    one-misread-count n l (before ++ b ∷ after) inside g sure page p (all-but-one l before b after page good more)
