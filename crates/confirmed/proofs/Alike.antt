@@ -24,10 +24,10 @@ list-read : (n l : ℕ) (list : List ℕ) (lent : Lent) → checks n l list lent
 unfolding outcome after
 list-read n l list lent p = rw p
 
-checks-same : (n l : ℕ) (list new : List ℕ) (lent : Lent) → length new ≡ length list → strayFrom n l 0 (rowsOf l new) ≡ strayFrom n l 0 (rowsOf l list)
+checks-alike : (n l : ℕ) (list new : List ℕ) (lent : Lent) → length new ≡ length list → strayFrom n l 0 (rowsOf l new) ≡ strayFrom n l 0 (rowsOf l list)
     → checks n l new lent ≡ checks n l list lent
 unfolding checks wholeRows rowCount
-checks-same n l list new lent size e = rw (size, e)
+checks-alike n l list new lent size e = rw (size, e)
 
 module _ (n l : ℕ) (list : List ℕ) (lent : Lent) (e : gave (outcome n l list lent) ≡ true) (full : rank (rowsOf l list) ≡ n)
     (before : List ℕ) (r : ℕ) (after : List ℕ) (rows : rowsOf l list ≡ before ++ r ∷ after) (u : Unused before r after)
@@ -45,7 +45,7 @@ module _ (n l : ℕ) (list : List ℕ) (lent : Lent) (e : gave (outcome n l list
   old-full = rw rows at full
 
   new-passes : checks n l new lent ≡ passes
-  new-passes = checks-same n l list new lent size (clean ∙ sym (P .clean)) ∙ given-passes n l list lent e
+  new-passes = checks-alike n l list new lent size (clean ∙ sym (P .clean)) ∙ given-passes n l list lent e
     where
       clean : strayFrom n l 0 (rowsOf l new) ≡ passes
       clean = none-stray n l 0 (rowsOf l new) (rw rows′ (swapped-inside n l before r after old-inside old-gives old-full u other same))

@@ -58,14 +58,14 @@ alone-at (r ∷ roles) (u ∷ us) e = go (eqb r 2) (eqb u 0) refl e (alone-at ro
 
 -- ---- what a mark of 0 says of its row
 
-spread-at : (d : ℕ) (bs : List Bool) (b : Bool) (cs : List Bool) (vs : List ℕ) → getD (spread d (bs ++ b ∷ cs) vs) (length bs) d ≡ cond b (getD vs (marked bs) d) d
+spread-seam : (d : ℕ) (bs : List Bool) (b : Bool) (cs : List Bool) (vs : List ℕ) → getD (spread d (bs ++ b ∷ cs) vs) (length bs) d ≡ cond b (getD vs (marked bs) d) d
 unfolding spread marked
-spread-at d [] true cs [] = refl
-spread-at d [] true cs (v ∷ vs) = refl
-spread-at d [] false cs vs = refl
-spread-at d (false ∷ bs) b cs vs = spread-at d bs b cs vs
-spread-at d (true ∷ bs) b cs [] = spread-at d bs b cs []
-spread-at d (true ∷ bs) b cs (v ∷ vs) = spread-at d bs b cs vs
+spread-seam d [] true cs [] = refl
+spread-seam d [] true cs (v ∷ vs) = refl
+spread-seam d [] false cs vs = refl
+spread-seam d (false ∷ bs) b cs vs = spread-seam d bs b cs vs
+spread-seam d (true ∷ bs) b cs [] = spread-seam d bs b cs []
+spread-seam d (true ∷ bs) b cs (v ∷ vs) = spread-seam d bs b cs vs
 
 zero-any : (vs : List ℕ) (j : ℕ) → getD vs j 65535 ≡ 0 → getD vs j 0 ≡ 0
 zero-any [] j e = refl
@@ -77,7 +77,7 @@ module _ (before : List ℕ) (r : ℕ) (after : List ℕ) (u : Unused before r a
   unfolding usesMarks
   at b cs k =
       ap (λ (m : ℕ). cond b (getD (uses (before ++ r ∷ after)) m 65535) 65535) (sym (marked-kept before))
-      ∙ sym (spread-at 65535 (kept before) b cs (uses (before ++ r ∷ after)))
+      ∙ sym (spread-seam 65535 (kept before) b cs (uses (before ++ r ∷ after)))
       ∙ ap₂ (λ bs m. getD (spread 65535 bs (uses (before ++ r ∷ after))) m 65535) (sym k) (length-kept before) ∙ u
 
   -- the rows kept before it do not span it

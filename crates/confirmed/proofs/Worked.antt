@@ -11,6 +11,6 @@ use Rattle.reading.specs.Reading.{keptAfter, kept, keptRows, otherRows, usesOf,
 use Rattle.reading.specs.Worked.{k2, k4, k6, k7, k9, listOf}
 use Rattle.confirmed.specs.Confirmed.{confirmed}
 
-pub worked : map (λ k. confirmed (k .n) (rowsOf 1 (listOf k))) (k2 ∷ k4 ∷ k6 ∷ k7 ∷ k9 ∷ []) ≡ false ∷ true ∷ false ∷ true ∷ true ∷ []
+pub worked-confirmed : map (λ k. confirmed (k .n) (rowsOf 1 (listOf k))) (k2 ∷ k4 ∷ k6 ∷ k7 ∷ k9 ∷ []) ≡ false ∷ true ∷ false ∷ true ∷ true ∷ []
 unfolding confirmed listOf picked picks uses usesOf otherRows keptRows kept keptAfter rowsOf rowCount number bytes numbers flat select count tabulate spans setOf _⊕_
-worked = refl
+worked-confirmed = refl
