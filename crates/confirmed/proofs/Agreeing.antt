@@ -48,7 +48,7 @@ module _ (l : ℕ) (page : List ℕ) where
   unfolding misread
   misread-is r e = rw e
 
-  pub misread-not : (r : ℕ) → not (misread l page r) ≡ true → agrees l page r ≡ true
+  misread-not : (r : ℕ) → not (misread l page r) ≡ true → agrees l page r ≡ true
   unfolding misread
   misread-not r e = not-false (agrees l page r) (not-true (not (agrees l page r)) e)
 

@@ -1,15 +1,13 @@
--- Laws of counts and masks, each by induction on a list.
+-- Laws of counts, each by induction on a list.
 -- Assumes nothing.
-use mathlib.Core.Path.{_≡_, refl}
+use mathlib.Core.Path.{_≡_, refl, sym, _∙_}
 use Prim.Native.Nat.{ℕ, zero, suc, _+_, _≤_, _<_}
 use native.Mathlib.Omega.{arith}
-use mathlib.Core.Bool.{Bool, true, false, cond, not}
+use mathlib.Core.Bool.{Bool, true, false, cond, not, true≢false}
 use mathlib.Core.List.{List, [], _∷_, _++_, map, List·Memᴰ, List·Memᴰ·head, List·Memᴰ·tail}
 use lib.ListN.{length, getD}
 use borrow.Author.Tests.{not-true}
-use Rattle.space.specs.Lists.{select, marked, count, tabulate, All}
-
--- ---- counts
+use Rattle.space.specs.Lists.{select, count, All}
 
 -- a count of 0, and what it says
 pub none-pass : (p : ℕ → Bool) (xs : List ℕ) → count p xs ≡ 0 → All (λ x. not (p x)) xs
@@ -49,6 +47,19 @@ count-at p (x ∷ xs) (suc j) h e = go (p x) (count-at p xs j (omega arith) e)
     go true k = omega arith
     go false k = k
 
+-- what passes one test passes another
+pub count-more : (a p q : ℕ → Bool) → ((x : ℕ) → a x ≡ true → p x ≡ true → q x ≡ true) → (xs : List ℕ) → All a xs → count p xs ≤ count q xs
+unfolding count
+count-more a p q f [] h = omega arith
+count-more a p q f (x ∷ xs) h = go (p x) refl (q x) refl (count-more a p q f xs (h .1))
+  where
+    go : (b : Bool) → p x ≡ b → (c : Bool) → q x ≡ c → count p xs ≤ count q xs
+        → cond b (suc (count p xs)) (count p xs) ≤ cond c (suc (count q xs)) (count q xs)
+    go true e true d ih = omega arith
+    go true e false d ih = absurd (true≢false (sym (f x (h .0) e) ∙ d))
+    go false e true d ih = omega arith
+    go false e false d ih = ih
+
 one-more : (b : Bool) (x y : ℕ) → cond b (suc (x + y)) (x + y) ≡ cond b (suc x) x + y
 one-more true x y = omega arith
 one-more false x y = refl
@@ -71,43 +82,3 @@ count-split p [] (x ∷ xs) e = absurd (omega arith)
 count-split p (b ∷ bs) [] e = absurd (omega arith)
 count-split p (true ∷ bs) (x ∷ xs) e = rw (count-split p bs xs (omega arith)) (one-more (p x) (count p (select bs xs)) (count p (select (map not bs) xs)))
 count-split p (false ∷ bs) (x ∷ xs) e = rw (count-split p bs xs (omega arith)) (more-one (p x) (count p (select bs xs)) (count p (select (map not bs) xs)))
-
--- ---- masks and places
-
-pub tabulate-at : (n : ℕ) (f : ℕ → ℕ) (j : ℕ) → j < n → getD (tabulate n f) j 0 ≡ f j
-unfolding tabulate
-tabulate-at zero f j h = absurd (omega arith)
-tabulate-at (suc n) f zero h = refl
-tabulate-at (suc n) f (suc j) h = tabulate-at n (λ k. f (suc k)) j (omega arith)
-
--- two lists place by place: where a test of the one passes, one of the other does
-pub select-along : (q p : ℕ → Bool) (bs : List Bool) (us xs : List ℕ) → length us ≡ length xs
-    → ((j : ℕ) → j < length xs → q (getD us j 0) ≡ true → p (getD xs j 0) ≡ true) → All q (select bs us) → All p (select bs xs)
-unfolding select
-select-along q p [] us xs e f a = tt
-select-along q p (b ∷ bs) us [] e f a = tt
-select-along q p (b ∷ bs) [] (x ∷ xs) e f a = absurd (omega arith)
-select-along q p (true ∷ bs) (u ∷ us) (x ∷ xs) e f a =
-    (f 0 (omega arith) (a .0), select-along q p bs us xs (omega arith) (λ j h t. f (suc j) (omega arith) t) (a .1))
-select-along q p (false ∷ bs) (u ∷ us) (x ∷ xs) e f a = select-along q p bs us xs (omega arith) (λ j h t. f (suc j) (omega arith) t) a
-
--- where not all are marked, one is left out
-pub left-out : (bs : List Bool) (xs : List ℕ) → length bs ≡ length xs → marked bs < length xs → (y : ℕ) × List·Memᴰ y (select (map not bs) xs)
-unfolding select marked
-left-out [] [] e h = absurd (omega arith)
-left-out [] (x ∷ xs) e h = absurd (omega arith)
-left-out (b ∷ bs) [] e h = absurd (omega arith)
-left-out (true ∷ bs) (x ∷ xs) e h = left-out bs xs (omega arith) (omega arith)
-left-out (false ∷ bs) (x ∷ xs) e h = (x, List·Memᴰ·head refl)
-
--- those that a mask marks, and the others, all pass: all do
-pub all-merge : (p : ℕ → Bool) (bs : List Bool) (xs : List ℕ) → length bs ≡ length xs → All p (select bs xs) → All p (select (map not bs) xs) → All p xs
-unfolding select
-all-merge p bs [] e a b = tt
-all-merge p [] (x ∷ xs) e a b = absurd (omega arith)
-all-merge p (true ∷ bs) (x ∷ xs) e a b = (a .0, all-merge p bs xs (omega arith) (a .1) b)
-all-merge p (false ∷ bs) (x ∷ xs) e a b = (b .0, all-merge p bs xs (omega arith) a (b .1))
-
-pub all-split : (p : ℕ → Bool) (xs ys : List ℕ) → All p (xs ++ ys) → All p xs × All p ys
-all-split p [] ys a = (tt, a)
-all-split p (x ∷ xs) ys a = let r : All p xs × All p ys = all-split p xs ys (a .1) in ((a .0, r .0), r .1)

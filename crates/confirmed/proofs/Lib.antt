@@ -1,7 +1,10 @@
 pub mod Counts
+pub mod Masks
 pub mod Agreeing
 pub mod More
 pub mod Misread
+pub mod Within
+pub mod Suffices
 pub mod Marks
 pub mod Split
 pub mod Extending

@@ -32,7 +32,7 @@ spread-confirmed (true ∷ ks) (true ∷ ps) (zero ∷ us) e f = sym (ne-eqb (su
 spread-confirmed (true ∷ ks) (true ∷ ps) (suc u ∷ us) e f =
     rw (ne-eqb (suc u) 0 (λ q. omega arith), ne-eqb 0 (suc u) (λ q. omega arith)) (spread-confirmed ks ps us (omega arith) (omega arith))
 
-pub marked-kept : (rows : List ℕ) → marked (kept rows) ≡ rank rows
+marked-kept : (rows : List ℕ) → marked (kept rows) ≡ rank rows
 unfolding rank keptRows
 marked-kept rows = sym (length-select (kept rows) rows (length-kept rows))
 

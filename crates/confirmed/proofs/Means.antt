@@ -23,7 +23,7 @@ use Rattle.reading.specs.Outcome.{usesMarks, rolesMarks, telling}
 use Rattle.reading.proofs.Spread.{marks-rows}
 use Rattle.reading.proofs.Page.{length-pageOf, pageOf-below}
 use Rattle.confirmed.specs.Confirmed.{confirmed, IsPage, GivesPage, given, Certain, Unused}
-use Rattle.confirmed.proofs.Counts.{all-split}
+use Rattle.confirmed.proofs.Masks.{all-split}
 use Rattle.confirmed.proofs.More.{more-confirms}
 use Rattle.confirmed.proofs.Marks.{marks-confirmed, alone-at}
 use Rattle.confirmed.proofs.Misread.{all-but-one, one-misread-count}
@@ -33,7 +33,7 @@ pub given-page : (n l : ℕ) (rows : List ℕ) → IsPage n l (given n l rows)
 given-page n l rows = record { size = length-pageOf n l (pickedRows n rows); symbols = pageOf-below n l (pickedRows n rows) }
 
 -- a page that is given and not confirmed comes of rank n
-pub unconfirmed-full : (n l : ℕ) (rows : List ℕ) → GivesPage n l rows → confirmed n rows ≡ false → rank rows ≡ n
+unconfirmed-full : (n l : ℕ) (rows : List ℕ) → GivesPage n l rows → confirmed n rows ≡ false → rank rows ≡ n
 unconfirmed-full n l rows g c = go (decLt n (rank rows))
   where
     at-least : n ≤ rank rows

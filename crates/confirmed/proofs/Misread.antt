@@ -7,18 +7,19 @@ use mathlib.Core.Bool.{Bool, true, false, cond, not, true≢false}
 use mathlib.Core.List.{List, _∷_, _++_, map, List·Memᴰ}
 use lib.Dec.{leb}
 use lib.ListN.{length, getD}
-use borrow.Author.Tests.{leb-true, not-false}
+use borrow.Author.Tests.{leb-true}
 use Rattle.space.specs.Lists.{count, All, Below}
-use Rattle.space.specs.Space.{sumOf, spans, setOf, independent}
+use Rattle.space.specs.Space.{sumOf, spans, setOf}
 use Rattle.space.proofs.Lists.{all-at, all-mono}
 use Rattle.space.proofs.Sets.{setOf-sum}
 use Rattle.rows.specs.Rows.{constraint, agrees}
-use Rattle.reading.specs.Reading.{kept, keptRows, otherRows, rank, usesOf, uses, picked, pickedRows, singular}
+use Rattle.reading.specs.Reading.{kept, keptRows, otherRows, rank, usesOf, uses, picked, pickedRows}
 use Rattle.reading.proofs.Kept.{length-kept, others-span}
-use Rattle.reading.proofs.Pick.{length-uses, picked-size, picked-inside}
-use Rattle.reading.proofs.Page.{page-unique}
+use Rattle.reading.proofs.Pick.{length-uses}
+use Rattle.reading.proofs.Page.{page-only}
 use Rattle.confirmed.specs.Confirmed.{confirmed, misread, IsPage, GivesPage, given, Certain}
-use Rattle.confirmed.proofs.Counts.{pass-none, some-passes, count-at, count-append, count-split, tabulate-at, select-along}
+use Rattle.confirmed.proofs.Counts.{pass-none, some-passes, count-at, count-append, count-split}
+use Rattle.confirmed.proofs.Masks.{tabulate-at, select-along}
 use Rattle.confirmed.proofs.Agreeing.{misread-is, agrees-not, none-misread, sum-misread}
 use Rattle.confirmed.proofs.More.{confirmed-exactly}
 
@@ -29,12 +30,12 @@ uses-at rows j h = tabulate-at (length (keptRows rows)) _ j h
 
 -- ---- with one misread row at most, a kept row that has a use agrees
 
-module _ (l : ℕ) (page rows : List ℕ) (one : count (misread l page) rows ≤ 1) where
-  -- the misread rows, kept or not
-  shares : count (misread l page) rows ≡ count (misread l page) (keptRows rows) + count (misread l page) (otherRows rows)
-  unfolding keptRows otherRows
-  shares = count-split (misread l page) (kept rows) rows (length-kept rows)
+-- the misread rows, kept or not
+pub shares : (l : ℕ) (page rows : List ℕ) → count (misread l page) rows ≡ count (misread l page) (keptRows rows) + count (misread l page) (otherRows rows)
+unfolding keptRows otherRows
+shares l page rows = count-split (misread l page) (kept rows) rows (length-kept rows)
 
+module _ (l : ℕ) (page rows : List ℕ) (one : count (misread l page) rows ≤ 1) where
   used-agrees : (j : ℕ) → j < rank rows → 1 ≤ getD (uses rows) j 0 → agrees l page (getD (keptRows rows) j 0) ≡ true
   used-agrees j h u = go (agrees l page (getD (keptRows rows) j 0)) refl
     where
@@ -55,10 +56,10 @@ module _ (l : ℕ) (page rows : List ℕ) (one : count (misread l page) rows ≤
           there = count-at (misread l page) (keptRows rows) j place (misread-is l page (getD (keptRows rows) j 0) e)
 
           good : agrees l page (user .0) ≡ true
-          good = all-at (agrees l page) (otherRows rows) (none-misread l page (otherRows rows) (omega (arith, one, there, shares))) (user .0) (user .1)
+          good = all-at (agrees l page) (otherRows rows) (none-misread l page (otherRows rows) (omega (arith, one, there, shares l page rows))) (user .0) (user .1)
 
           bad : agrees l page (user .0) ≡ false
-          bad = rw sum at (sum-misread l page (keptRows rows) (setOf (keptRows rows) (user .0)) j place (user .2) e (omega (arith, one, shares)))
+          bad = rw sum at (sum-misread l page (keptRows rows) (setOf (keptRows rows) (user .0)) j place (user .2) e (omega (arith, one, shares l page rows)))
 
   confirmed-agree : (n : ℕ) → confirmed n rows ≡ true → All (agrees l page) (pickedRows n rows)
   unfolding pickedRows
@@ -68,13 +69,14 @@ module _ (l : ℕ) (page rows : List ℕ) (one : count (misread l page) rows ≤
 
 -- ---- the page
 
+-- a page that the picked rows agree with is the one given
+pub agreed-page : (n l : ℕ) (rows page : List ℕ) → Below (2 ^ n) (map (constraint l) rows) → GivesPage n l rows → IsPage n l page
+    → All (agrees l page) (pickedRows n rows) → given n l rows ≡ page
+agreed-page n l rows page inside g p a = page-only n l rows inside (g .chosen) page (record { size = p .size; symbols = p .symbols; all = a })
+
 -- one row misread at most
 pub one-misread-count : (n l : ℕ) (rows : List ℕ) → Below (2 ^ n) (map (constraint l) rows) → GivesPage n l rows → confirmed n rows ≡ true → Certain n l rows
-one-misread-count n l rows inside g sure page p one =
-    page-unique n l (pickedRows n rows) (picked-inside n l (2 ^ n) rows inside) free (picked-size n rows (g .chosen)) page (p .size) (confirmed-agree l page rows one n sure)
-  where
-    free : independent (map (constraint l) (pickedRows n rows)) ≡ true
-    free = not-false (independent (map (constraint l) (pickedRows n rows))) (unfold singular in g .sound)
+one-misread-count n l rows inside g sure page p one = agreed-page n l rows page inside g p (confirmed-agree l page rows one n sure)
 
 -- all rows agree but b, whatever b is
 pub all-but-one : (l : ℕ) (before : List ℕ) (b : ℕ) (after page : List ℕ) → All (agrees l page) before → All (agrees l page) after

@@ -13,7 +13,8 @@ use Rattle.space.proofs.Lists.{all-in}
 use Rattle.reading.specs.Reading.{rank, uses, picked, tie}
 use Rattle.reading.proofs.Pick.{Most, picks-most, tie-never, length-uses, length-picked}
 use Rattle.confirmed.specs.Confirmed.{confirmed}
-use Rattle.confirmed.proofs.Counts.{none-pass, pass-none, left-out}
+use Rattle.confirmed.proofs.Counts.{none-pass, pass-none}
+use Rattle.confirmed.proofs.Masks.{left-out}
 
 used-leb : (u : ℕ) → not (eqb 0 u) ≡ leb 1 u
 used-leb zero = refl

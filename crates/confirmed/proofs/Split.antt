@@ -14,7 +14,7 @@ use Rattle.space.proofs.Lists.{map-append, select-append, all-in, all-at}
 use Rattle.space.proofs.Sets.{spans-own, rest-free}
 use Rattle.reading.specs.Reading.{keptAfter, kept, keptRows, otherRows}
 use Rattle.reading.proofs.Kept.{kept-append, length-kept}
-use Rattle.confirmed.proofs.Counts.{all-merge, all-split}
+use Rattle.confirmed.proofs.Masks.{all-merge, all-split}
 
 -- ---- one vector among others
 

@@ -12,7 +12,7 @@ use lib.ListN.{length, getD, length-append}
 use lib.Pow.{pow-pos}
 use borrow.Author.Tests.{eqb-true, eq-eqb, not-true}
 use Rattle.space.specs.Lists.{All, Below}
-use Rattle.space.specs.Space.{_⊕_, sumOf, spans, setOf, independent}
+use Rattle.space.specs.Space.{_⊕_, sumOf, spans, setOf}
 use Rattle.space.proofs.Lists.{map-append, all-in, all-at}
 use Rattle.space.proofs.Xor.{⊕-self, ⊕-zero, ⊕-cancel}
 use Rattle.space.proofs.Sets.{first-free, setOf-sum}
@@ -22,7 +22,8 @@ use Rattle.rows.proofs.Sums.{constraint-⊕, row-lt}
 use Rattle.reading.specs.Reading.{keptRows, otherRows, rank, singular}
 use Rattle.reading.proofs.Kept.{kept-independent, others-span}
 use Rattle.confirmed.specs.Confirmed.{Unused}
-use Rattle.confirmed.proofs.Counts.{none-pass, all-split}
+use Rattle.confirmed.proofs.Counts.{none-pass}
+use Rattle.confirmed.proofs.Masks.{all-split}
 use Rattle.confirmed.proofs.Marks.{unused-kept, unused-use}
 use Rattle.confirmed.proofs.Misread.{uses-at}
 use Rattle.confirmed.proofs.Split.{sum-without, none-same, back-free, keptTail, kept-split, elsewhere}

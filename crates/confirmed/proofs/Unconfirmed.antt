@@ -21,7 +21,7 @@ use Rattle.reading.specs.Outcome.{Lent, usesMarks, rolesMarks, telling, ended, 
 use Rattle.reading.proofs.Pick.{tie-never, length-picked, not-few, no-tie}
 use Rattle.reading.proofs.Given.{Given, page-given}
 use Rattle.confirmed.specs.Confirmed.{GivesPage, given, Unused, Untold}
-use Rattle.confirmed.proofs.Counts.{all-split}
+use Rattle.confirmed.proofs.Masks.{all-split}
 use Rattle.confirmed.proofs.Full.{rank-agrees, rank-agreement}
 use Rattle.confirmed.proofs.Moves.{Moves, same-kept, same-rank, same-uses, same-constraints, same-picked, same-singular}
 use Rattle.confirmed.proofs.Swapped.{swapped}
@@ -70,7 +70,7 @@ module _ (n l : ℕ) (before : List ℕ) (r : ℕ) (after : List ℕ) (inside : 
   swapped-inside = rw (same-constraints l old new moves) inside
 
   -- a page is given again
-  pub swapped-gives : GivesPage n l new
+  swapped-gives : GivesPage n l new
   swapped-gives = record {
     enough = not-few n new new-full;
     chosen = no-tie n new new-full;

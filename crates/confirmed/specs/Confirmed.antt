@@ -5,11 +5,11 @@ use Prim.Native.Nat.{ℕ, _*_, _^_, _≤_}
 use mathlib.Core.Path.{_≡_}
 use mathlib.Core.Bool.{Bool, true, false, not, _&&_}
 use mathlib.Core.List.{List, [], _∷_, _++_}
-use lib.Dec.{eqb}
+use lib.Dec.{eqb, leb}
 use lib.ListN.{length, getD, take}
-use Rattle.space.specs.Lists.{select, count, Below}
+use Rattle.space.specs.Lists.{select, marked, count, All, Below}
 use Rattle.rows.specs.Rows.{agrees, symbols, rowsOf}
-use Rattle.reading.specs.Reading.{uses, picked, pickedRows, pageOf, few, tie, singular}
+use Rattle.reading.specs.Reading.{keptRows, rank, uses, picked, pickedRows, pageOf, few, tie, singular}
 use Rattle.reading.specs.Outcome.{Outcome, usesMarks}
 
 -- Every picked row has a use: none of them has 0.
@@ -55,6 +55,16 @@ Certain n l rows = (page : List ℕ) → IsPage n l page → count (misread l pa
 abbrev pub CertainList : ℕ → ℕ → List ℕ → Outcome → Type 0
 CertainList n l list o =
     (page : List ℕ) → length page ≡ n * l → Below 256 page → count (misread l (symbols n l page)) (rowsOf l list) ≤ 1 → take (n * l) (o .lent .page) ≡ page
+
+-- ---- rows that enough others speak for
+
+-- Some n of the kept rows agree with the page, and each has b uses or more.
+pub record Enough (n l : ℕ) (rows page : List ℕ) (b : ℕ) : Type 0 where
+  pub these : List Bool
+  pub size : length these ≡ rank rows
+  pub number : marked these ≡ n
+  pub agree : All (agrees l page) (select these (keptRows rows))
+  pub used : All (leb b) (select these (uses rows))
 
 -- ---- a row that nothing speaks for
 
