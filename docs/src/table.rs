@@ -1,4 +1,4 @@
-//! Holds the four base frames that the printed tables of frame readings and layings start from.
+//! Holds the four base frames that the printed tables of frame readings, layings and rows made start from.
 
 use crate::frame;
 use crate::number::DONE;
@@ -12,7 +12,12 @@ pub struct Base {
     pub frame: Vec<u8>,
 }
 
-/// The smallest and the largest frame among them; byte i of page k is 37i + 11k modulo 256.
+/// The first bytes of page k: byte i is 37i + 11k modulo 256.
+pub fn page_bytes(k: usize, length: usize) -> Vec<u8> {
+    (0..length).map(|i| (37 * i + 11 * k) as u8).collect()
+}
+
+/// The smallest and the largest frame among them; base k is written from page k.
 pub fn base_frames() -> Vec<Base> {
     let fields = [
         (5, 1, 1, 0),
@@ -21,9 +26,7 @@ pub fn base_frames() -> Vec<Base> {
         (16_909_060, 7, 12, 305_419_896),
     ];
     let write = |(k, (page_number, n, l, seed))| {
-        let page: Vec<u8> = (0..page::length(n, l))
-            .map(|i| (37 * i + 11 * k) as u8)
-            .collect();
+        let page = page_bytes(k, page::length(n, l));
         let mut frame = vec![0; 22 + usize::from(l)];
         assert_eq!(
             frame::write(page_number, n, l, seed, &page, &mut frame),

@@ -1,3 +1,4 @@
 mod Shifts
 pub mod Laws
 pub mod Inside
+pub mod Settled

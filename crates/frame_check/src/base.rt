@@ -12,8 +12,8 @@ pub struct Base {
 
 pub const BASES: usize = 4;
 
-pub fn at(k: usize) -> Base
-    ensures { λ r. ⌜ (r .n ≤ 64) × (r .l ≤ 32) ⌝ }
+pub(crate) fn at(k: usize) -> Base
+    ensures { λ r. ⌜ (1 ≤ r .n) × (r .n ≤ 64) × (1 ≤ r .l) × (r .l ≤ 32) ⌝ }
 {
     match k {
         0 => Base {
@@ -43,8 +43,16 @@ pub fn at(k: usize) -> Base
     }
 }
 
+// The bytes of a page of its shape.
+pub(crate) fn page_bytes(b: Base) -> usize
+    requires { ⌜ (1 ≤ b .n) × (b .n ≤ 64) × (1 ≤ b .l) × (b .l ≤ 32) ⌝ }
+    ensures { λ r. ⌜ (1 ≤ r) × (r ≤ 2048) ⌝ }
+{
+    b.n as usize * b.l as usize
+}
+
 // Byte i of page k is 37i + 11k modulo 256.
-fn fill(page: &mut [u8], k: usize) {
+pub(crate) fn fill(page: &mut [u8], k: usize) {
     let mut i: usize = 0;
     while i < page.len() {
         page[i] = ((37 * (i % 256) + 11 * (k % 256)) % 256) as u8;
@@ -53,15 +61,15 @@ fn fill(page: &mut [u8], k: usize) {
 }
 
 fn write_from(page: &[u8], b: Base, room: &mut [u8])
-    requires { ⌜ (length (now page) ≡ 2048) × (b .n ≤ 64) × (b .l ≤ 32) ⌝ }
+    requires { ⌜ (length (now page) ≡ 2048) × (1 ≤ b .n) × (b .n ≤ 64) × (1 ≤ b .l) × (b .l ≤ 32) ⌝ }
 {
-    let size = b.n as usize * b.l as usize;
+    let size = page_bytes(b);
     writing::write(b.page, b.n, b.l, b.seed, &page[0..size], room);
 }
 
 // The frame of base k, at the start of room.
-pub fn write(k: usize, b: Base, room: &mut [u8])
-    requires { ⌜ (b .n ≤ 64) × (b .l ≤ 32) ⌝ }
+pub(crate) fn write(k: usize, b: Base, room: &mut [u8])
+    requires { ⌜ (1 ≤ b .n) × (b .n ≤ 64) × (1 ≤ b .l) × (b .l ≤ 32) ⌝ }
 {
     let mut page = [0u8; 2048];
     fill(&mut page, k);
@@ -69,7 +77,7 @@ pub fn write(k: usize, b: Base, room: &mut [u8])
 }
 
 // What laying i of a whole frame expects: its page, another one, or a shape out of range.
-pub fn expected(b: Base, i: usize) -> Base {
+pub(crate) fn expected(b: Base, i: usize) -> Base {
     let mut e = b;
     match i {
         6 => e.page = std::num::wrapping_add_u32(b.page, 1),

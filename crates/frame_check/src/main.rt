@@ -1,10 +1,11 @@
-// Prints the tables of frame readings and of layings that docs/src/bin/frames.rs and docs/src/bin/lays.rs print, one after the other.
+// Prints the tables that docs/src/bin/frames.rs, lays.rs and makes.rs print, one after the other: frame readings, layings and rows made.
 // Parts name their start, as room[0..end]: then the checker finds by itself how long they are.
 ghost use mathlib.Core.Path.{_≡_};
 ghost use Prim.Native.Nat.{_+_, _<_, _≤_};
 ghost use lib.ListN.{length};
 
 mod base;
+mod making;
 mod print;
 
 use base::BASES;
@@ -18,7 +19,7 @@ const ARRIVALS: [usize; 11] = [0, 1, 2, 3, 511, 512, 1, 1, 1, 1, 1];
 
 // The frame of a base, at the start of room; its length.
 fn written(room: &mut [u8], k: usize, b: Base) -> usize
-    requires { ⌜ (length (now room) ≡ 57) × (b .n ≤ 64) × (b .l ≤ 32) ⌝ }
+    requires { ⌜ (length (now room) ≡ 57) × (1 ≤ b .n) × (b .n ≤ 64) × (1 ≤ b .l) × (b .l ≤ 32) ⌝ }
     ensures { λ r. ⌜ r ≡ 22 + b .l ⌝ }
 {
     let end = 22 + b.l as usize;
@@ -109,7 +110,7 @@ fn into_lists(frame: &[u8], b: Base, row: usize)
 }
 
 fn layings_in(room: &mut [u8], k: usize, b: Base)
-    requires { ⌜ (length (now room) ≡ 57) × (b .n ≤ 64) × (b .l ≤ 32) ⌝ }
+    requires { ⌜ (length (now room) ≡ 57) × (1 ≤ b .n) × (b .n ≤ 64) × (1 ≤ b .l) × (b .l ≤ 32) ⌝ }
 {
     let row = 8 + b.l as usize;
     let size = 3 * row + 5;
@@ -124,21 +125,22 @@ fn layings(k: usize) {
     layings_in(&mut room, k, base::at(k));
 }
 
-fn lines(k: usize, of_layings: bool) {
-    if of_layings {
-        layings(k);
-    } else {
-        readings(k);
+fn lines(k: usize, table: u8) {
+    match table {
+        0 => readings(k),
+        1 => layings(k),
+        _ => making::rows(k),
     }
 }
 
-fn table(of_layings: bool) {
+fn table(which: u8) {
     for k in 0..BASES {
-        lines(k, of_layings);
+        lines(k, which);
     }
 }
 
 fn main() {
-    table(false);
-    table(true);
+    table(0);
+    table(1);
+    table(2);
 }

@@ -5,9 +5,13 @@ use crate::base::Base;
 use frame::Numbers;
 use libc::STDOUT_FILENO;
 use rows::Arrival;
+use rows::Made;
 
 // Three of the longest rows, and five bytes.
 const LIST: usize = 125;
+
+// The longest row, and three bytes.
+const ROOM: usize = 43;
 
 fn number(x: u64) {
     io::print_decimal(STDOUT_FILENO, x);
@@ -47,7 +51,7 @@ fn numbers(numbers: Numbers) {
 }
 
 // The numbers, and the payload.
-pub fn reading(frame: &[u8]) {
+pub(crate) fn reading(frame: &[u8]) {
     numbers(frame::numbers_of(frame::read(frame)));
     let payload = frame::payload(frame);
     if payload.len() == 0 {
@@ -74,9 +78,35 @@ fn laying_in(list: &mut [u8], frame: &[u8], b: Base, arrival: usize, size: usize
 }
 
 // Number, place and the whole of a fresh list afterwards, of bytes 170 before.
-pub fn laying(frame: &[u8], b: Base, arrival: usize, size: usize)
+pub(crate) fn laying(frame: &[u8], b: Base, arrival: usize, size: usize)
     requires { ⌜ size ≤ 125 ⌝ }
 {
     let mut list = [170u8; LIST];
     laying_in(&mut list, frame, b, arrival, size);
+}
+
+fn number_of(answer: Made) -> u64 {
+    match answer {
+        Made::Row => 0,
+        Made::Shape => 1,
+        Made::Room => 3,
+        Made::Stray => 4,
+        Made::Length => 8,
+    }
+}
+
+fn making_in(room: &mut [u8], n: u8, l: u8, constraint: u64, page: &[u8], size: usize)
+    requires { ⌜ size ≤ length (now room) ⌝ }
+{
+    let answer = rows::make(n, l, constraint, page, &mut room[0..size]);
+    number(number_of(answer));
+    bytes(&room[0..size]);
+}
+
+// Number and the whole of a fresh room afterwards, of bytes 170 before.
+pub(crate) fn making(n: u8, l: u8, constraint: u64, page: &[u8], size: usize)
+    requires { ⌜ size ≤ 43 ⌝ }
+{
+    let mut room = [170u8; ROOM];
+    making_in(&mut room, n, l, constraint, page, size);
 }

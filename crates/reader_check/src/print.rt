@@ -8,7 +8,7 @@ fn number(x: u64) {
     io::write_all(STDOUT_FILENO, b" ");
 }
 
-pub fn answer(answer: Answer) {
+pub(crate) fn answer(answer: Answer) {
     let numbers = reading::numbers_of(answer);
     number(numbers.number as u64);
     number(numbers.rank as u64);
@@ -24,7 +24,7 @@ fn word(w: u16) {
     number(w as u64);
 }
 
-pub fn bytes(bytes: &[u8]) {
+pub(crate) fn bytes(bytes: &[u8]) {
     io::write_all(STDOUT_FILENO, b"| ");
     let mut i: usize = 0;
     while i < bytes.len() {
@@ -33,7 +33,7 @@ pub fn bytes(bytes: &[u8]) {
     }
 }
 
-pub fn words(words: &[u16]) {
+pub(crate) fn words(words: &[u16]) {
     io::write_all(STDOUT_FILENO, b"| ");
     let mut i: usize = 0;
     while i < words.len() {
@@ -49,7 +49,7 @@ fn one_if_zero(b: u8) -> usize
 }
 
 // How many bytes of the scratch are zero, and how many are not, to the line's end.
-pub fn scratch(scratch: &[u8]) {
+pub(crate) fn scratch(scratch: &[u8]) {
     let mut zeros: usize = 0;
     let mut i: usize = 0;
     while i < scratch.len() {

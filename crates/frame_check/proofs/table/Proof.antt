@@ -6,10 +6,10 @@ use Rattle.frame_check.proofs.table.Statement.{statement}
 use Rattle.frame_check.proofs.table.Tie as tie
 
 abbrev Inv-loop : tie.InvT-loop
-Inv-loop of-layings k₀ k = k ≤ 4
+Inv-loop which k₀ k = k ≤ 4
 
 abbrev μ-loop : tie.MeasureT-loop
-μ-loop of-layings k₀ k = 4 - k
+μ-loop which k₀ k = 4 - k
 
 loop-holds : tie.Need-loop-holds Inv-loop μ-loop
 loop-holds c = search needs
