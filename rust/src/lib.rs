@@ -49,14 +49,14 @@
 //! - The page is confirmed exactly when no single misread row can have made it wrong: when there is
 //!   no other page that all rows but at most one agree with (`confirmed-means`, `one-misread`).
 //! - Where the rank is n and a picked row has no use, any other payload in that row gives another
-//!   page with the same rank, agreement, kept rows and uses (`unconfirmed`). Nothing can tell the
-//!   two apart.
+//!   page with the same rank, agreement, kept rows and uses (`unconfirmed`): no number and no mark
+//!   tells the two apart.
 //! - Where the rank is over n, the page is confirmed (`more-confirms`).
 //!
-//! What is not: two or more misread rows can make a confirmed page wrong. A frame whose seed was
-//! misread is a misread row too, and so is each copy of one misread frame that is offered more than
-//! once. How often that happens was tried and is in docs/CONFIRMED.md; [`Page::beyond`] counts the
-//! rows that agree beyond those n, and the more they are, the rarer it was.
+//! Two or more misread rows can make a confirmed page wrong. A frame whose seed was misread is a
+//! misread row too, and so is each copy of one misread frame that is offered more than once. How
+//! often confirmed pages were wrong where it was tried is in docs/CONFIRMED.md: rarest where, with
+//! many rows that agree beyond those n ([`Page::beyond`]), few disagree ([`Page::disagreeing`]).
 //!
 //! # Both versions of a page
 //!

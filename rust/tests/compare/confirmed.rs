@@ -281,6 +281,15 @@ fn nothing_tells_of_a_row_alone() {
     assert_frequent(&seen, &all.map(|found| found as u8));
 }
 
+/// Of two misread rows nothing is claimed: here each confirms the other, and the page is wrong.
+#[test]
+fn two_misread_rows_can_confirm_a_page() {
+    let written = [9];
+    let misread = [0, 0, 0, 0, 0, 0, 0, 1, 7];
+    let read = read(1, 1, &[misread, misread].concat());
+    assert!(read.confirmed && read.page != written);
+}
+
 /// An answer without a page, and marks that are cut short, confirm nothing.
 #[test]
 fn what_confirms_nothing() {
