@@ -52,8 +52,8 @@ pub struct Versions<'a> {
 pub enum Other<'a> {
     /// There are none: every row agrees with the page.
     None,
-    /// A second version of the page. Its rows, its agreement and whether it is confirmed are those
-    /// of the rows that do not agree with the first, and of no others.
+    /// A page of their own: a second version, if they were not misread. Its rows, its agreement and
+    /// whether it is confirmed are theirs alone.
     Page(Page<'a>),
     /// No page: they were misread, or are too few or too mixed yet for a version of their own.
     Unsettled(Next),
