@@ -28,11 +28,16 @@ fn main() -> io::Result<()> {
     Ok(())
 }
 
-/// One version, and how many of its frames agree with it.
+/// One version, how many of its frames agree with it, and whether these confirm it.
 fn print(version: &str, page: Page) {
     let text = page.bytes.escape_ascii();
+    let confirmed = if page.confirmed {
+        "confirmed"
+    } else {
+        "not confirmed: scan on"
+    };
     println!(
-        "{version} version: {text}; {} of {} frames agree",
+        "{version} version: {text}; {} of {} frames agree, {confirmed}",
         page.agreement, page.rows
     );
 }

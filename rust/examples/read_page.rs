@@ -1,4 +1,5 @@
-//! Reads a page from frames on standard input, one a line in hexadecimal digits.
+//! Reads a page from frames on standard input, one a line in hexadecimal digits, and says whether
+//! it is confirmed.
 
 use std::io::{self, stdin};
 
@@ -10,7 +11,16 @@ fn main() -> io::Result<()> {
         }
     }
     match scan.read() {
-        Ok(page) => println!("{:02x?}, {} rows agree", page.bytes, page.agreement),
+        Ok(page) => {
+            println!("{}", page.bytes.escape_ascii());
+            let confirmed = if page.confirmed {
+                "confirmed"
+            } else {
+                "not confirmed: scan on"
+            };
+            let (agreement, rows, beyond) = (page.agreement, page.rows, page.beyond());
+            println!("{agreement} of {rows} frames agree, {beyond} more than needed; {confirmed}");
+        }
         Err(next) => println!("{next}"),
     }
     Ok(())

@@ -58,6 +58,8 @@ pub struct Second<'a> {
 /// assert_eq!(both.first, Answer::Page { rank: 2, agreement: 2 });
 /// assert_eq!(both.second, Answer::Page { rank: 1, agreement: 1 });
 /// assert_eq!((page, page2, both.rows), ([9], [7], 1));
+/// assert!(both.first.confirmed(&uses, &roles));
+/// assert!(!both.second.confirmed(&uses2, &roles2)); // one row says so, and none checks it
 /// assert_eq!(list2[..9], list[..9]);
 /// ```
 // One for each thing lent, as in `read_list`.

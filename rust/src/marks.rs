@@ -38,6 +38,11 @@ impl Mark {
         }
     }
 
+    /// Whether the row is picked and has no use: if it was misread, no other row tells.
+    pub fn alone(self) -> bool {
+        self == Mark::Picked { uses: 0 }
+    }
+
     fn of(role: u8, uses: u16) -> Option<Self> {
         match role {
             0 => Some(Mark::NotKept),

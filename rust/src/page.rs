@@ -5,7 +5,7 @@ use std::fmt;
 
 use crate::{Answer, PageId, MOST_ROWS};
 
-/// A page as read, in the buffers of its scan.
+/// A page as read, in the buffers of its scan. Scan on until it is confirmed.
 #[derive(Clone, Copy, Debug, PartialEq, Eq)]
 pub struct Page<'a> {
     /// Which page it is.
@@ -18,10 +18,21 @@ pub struct Page<'a> {
     pub rank: usize,
     /// How many of them agree with the page.
     pub agreement: usize,
+    /// Whether every picked row has a use: exactly then no single misread row can have made the
+    /// page wrong. See [what is proved of it](crate#when-to-believe-a-page), and what is not.
+    pub confirmed: bool,
 }
 
 impl Page<'_> {
+    /// How many rows agree with the page beyond the n picked ones, which always do.
+    pub fn beyond(&self) -> usize {
+        self.agreement - usize::from(self.id.n)
+    }
+
     /// How many rows do not agree with the page: misread, or from another version of it.
+    ///
+    /// There are some exactly where the rank is over n, and then the page is confirmed. So where
+    /// there are none, this says nothing about the page.
     pub fn disagreeing(&self) -> usize {
         self.rows - self.agreement
     }
@@ -30,7 +41,7 @@ impl Page<'_> {
 /// Both versions of a page, as far as the frames settle them.
 #[derive(Clone, Copy, Debug, PartialEq, Eq)]
 pub struct Versions<'a> {
-    /// The page that all rows give.
+    /// The page that all rows give: either version, or neither.
     pub page: Page<'a>,
     /// What the rows give that do not agree with it.
     pub other: Other<'a>,
@@ -41,7 +52,8 @@ pub struct Versions<'a> {
 pub enum Other<'a> {
     /// There are none: every row agrees with the page.
     None,
-    /// A second version of the page.
+    /// A page of their own: a second version, if they were not misread. Its rows, its agreement and
+    /// whether it is confirmed are theirs alone.
     Page(Page<'a>),
     /// No page: they were misread, or are too few or too mixed yet for a version of their own.
     Unsettled(Next),

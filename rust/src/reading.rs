@@ -2,13 +2,14 @@
 
 use std::fmt;
 
-use crate::boundary;
+use crate::{boundary, marks, Mark};
 
 /// The answer of a list reading; see document 01's table "Answer numbers of a reading".
 #[derive(Clone, Copy, Debug, PartialEq, Eq)]
 #[must_use]
 pub enum Answer {
-    /// 0: the page is in the first nL bytes of its room.
+    /// 0: the page is in the first nL bytes of its room. [`confirmed`](Answer::confirmed) says
+    /// whether a single misread row can have made it wrong.
     Page {
         /// How many rows are kept.
         rank: usize,
@@ -85,6 +86,22 @@ impl Answer {
         }
     }
 
+    /// Whether there is a page and every picked row has a use, by the marks that the reading left:
+    /// exactly then no single misread row can have made the page wrong. See
+    /// [what is proved of it](crate#when-to-believe-a-page), and what is not.
+    ///
+    /// The buffers may be longer than the reading asked for. Where they do not have the marks of
+    /// all rows, a page does not count as confirmed.
+    pub fn confirmed(self, uses: &[u8], roles: &[u8]) -> bool {
+        let Answer::Page { rank, .. } = self else {
+            return false;
+        };
+        let kept = marks(uses, roles).filter(|&mark| mark != Mark::NotKept);
+        // What follows the last kept row is none of the reading's.
+        let sound = kept.take(rank).filter(|mark| !mark.alone());
+        sound.count() == rank
+    }
+
     /// Whether uses and roles are filled and the scratch is cleared: under 0, 5, 6 and 7.
     pub fn fills_marks(self) -> bool {
         match self {
@@ -152,6 +169,12 @@ impl fmt::Display for Answer {
 /// assert_eq!(page, [9]);
 /// assert!(uses(&pairs).eq([0, 1, 65_535]));
 /// assert_eq!(roles, [1, 2, 0]);
+/// assert!(answer.confirmed(&pairs, &roles));
+///
+/// // The first row by itself gives a page as well, which nothing confirms.
+/// let answer = read_list(1, 1, &list[..9], &mut page, &mut pairs, &mut roles, &mut scratch);
+/// assert_eq!((answer, page), (Answer::Page { rank: 1, agreement: 1 }, [7]));
+/// assert!(!answer.confirmed(&pairs, &roles));
 /// ```
 pub fn read_list(
     n: u8,

@@ -52,6 +52,7 @@ impl Buffers {
             rows,
             rank,
             agreement,
+            confirmed: answer.confirmed(&self.uses, &self.roles),
         })
     }
 }
@@ -118,7 +119,7 @@ impl Scan {
     /// Reads the rows laid so far: the page, or what to do next.
     ///
     /// A page is what the rows so far say, and more of them may say otherwise. The n picked rows
-    /// always agree with it, and only rows beyond these confirm it:
+    /// always agree with it, and only rows beyond these confirm it. Scan on until it is confirmed:
     ///
     /// ```
     /// use mekorvat::{Next, Scan};
@@ -129,7 +130,8 @@ impl Scan {
     ///
     /// scan.offer(&frame)?; // misread, but the only row so far
     /// let page = scan.read().unwrap();
-    /// assert_eq!((page.bytes, page.agreement), (&[7][..], 1));
+    /// assert_eq!((page.bytes, page.disagreeing()), (&[7][..], 0));
+    /// assert!(!page.confirmed);
     ///
     /// frame[22] = 9;
     /// scan.offer(&frame)?; // one against one
@@ -137,8 +139,9 @@ impl Scan {
     ///
     /// scan.offer(&frame)?;
     /// let page = scan.read().unwrap();
-    /// assert_eq!((page.bytes, page.agreement), (&[9][..], 2));
-    /// assert_eq!(page.disagreeing(), 1);
+    /// assert_eq!((page.bytes, page.disagreeing()), (&[9][..], 1));
+    /// assert!(page.confirmed);
+    /// assert_eq!(page.beyond(), 1); // both frames that say 9 agree, and one would do
     /// # Ok::<(), mekorvat::LayRefusal>(())
     /// ```
     pub fn read(&mut self) -> Result<Page<'_>, Next> {
@@ -160,7 +163,8 @@ impl Scan {
     }
 
     /// Reads both versions of the page: what [`read`](Scan::read) gives, and what those rows give
-    /// that do not agree with it.
+    /// that do not agree with it. Either version may come first, and each is confirmed by rows of
+    /// its own list only.
     ///
     /// ```
     /// use mekorvat::{Other, Scan};
@@ -176,7 +180,10 @@ impl Scan {
     /// assert_eq!((versions.page.bytes, versions.page.agreement), (&[9][..], 2));
     /// match versions.other {
     ///     Other::None => println!("every frame agrees"),
-    ///     Other::Page(other) => assert_eq!((other.bytes, other.agreement), (&[7][..], 1)),
+    ///     Other::Page(other) => {
+    ///         assert_eq!((other.bytes, other.agreement), (&[7][..], 1));
+    ///         assert!(!other.confirmed); // one frame says so, and none checks it
+    ///     }
     ///     Other::Unsettled(next) => println!("of the other frames: {next}"),
     /// }
     /// # assert!(matches!(scan.read_both().unwrap().other, Other::Page(_)));

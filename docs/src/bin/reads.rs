@@ -46,10 +46,26 @@ fn main() {
     print_reading(64, 32, &units(32, 2_559), exact);
 
     let list = units(32, 2_560);
-    print_reading(64, 32, &list, Rooms { page: 2_047, ..exact });
+    print_reading(
+        64,
+        32,
+        &list,
+        Rooms {
+            page: 2_047,
+            ..exact
+        },
+    );
     print_reading(64, 32, &list, Rooms { uses: 63, ..exact });
     print_reading(64, 32, &list, Rooms { roles: 63, ..exact });
-    print_reading(64, 32, &list, Rooms { scratch: 32_767, ..exact });
+    print_reading(
+        64,
+        32,
+        &list,
+        Rooms {
+            scratch: 32_767,
+            ..exact
+        },
+    );
 }
 
 fn rooms(page: usize, uses: usize, roles: usize, scratch: usize) -> Rooms {

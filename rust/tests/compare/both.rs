@@ -8,7 +8,8 @@ use plain::rng::Rng;
 
 use crate::buffer::Buffer;
 use crate::case::{agree, same, Case, Words};
-use crate::lists::{Lent, ListCase};
+use crate::confirmed::confirmed;
+use crate::lists::{rows_of, Lent, ListCase};
 use crate::random_lists::random_case;
 use crate::rounds::{assert_frequent, rounds};
 
@@ -29,6 +30,9 @@ struct LentBoth {
 
 /// Number, rank, place and agreement of both, and the rows of the second list.
 type Numbers = [usize; 9];
+
+/// Whether each page is confirmed.
+type Confirmed = [bool; 2];
 
 fn numbers(both: Both) -> Numbers {
     let [(number, rank, place, agreement), (number2, rank2, place2, agreement2)] =
@@ -54,7 +58,7 @@ impl LentBoth {
     }
 
     /// The independent decoder has 16-bit uses, so the pairs are taken apart and put back.
-    fn read_by_plain(&mut self, case: &ListCase) -> Numbers {
+    fn read_by_plain(&mut self, case: &ListCase) -> (Numbers, Confirmed) {
         let [list2, page2, pairs2, roles2] = self.second.each_mut().map(Buffer::lent);
         let pairs = self.first.uses.lent();
         let mut uses: Vec<u16> = mekorvat::uses(pairs).collect();
@@ -63,7 +67,7 @@ impl LentBoth {
             list: list2,
             page: page2,
             uses: &mut uses2,
-            roles: roles2,
+            roles: &mut *roles2,
         };
         let both = read_both(
             case.n,
@@ -75,12 +79,17 @@ impl LentBoth {
             second,
             self.first.scratch.lent(),
         );
+        let roles = self.first.roles.lent();
+        let both_confirmed = [
+            confirmed(both.first.number, rows_of(case), &uses, roles),
+            confirmed(both.second.number, both.rows, &uses2, roles2),
+        ];
         for (pairs, uses) in [(pairs, uses), (pairs2, uses2)] {
             for (pair, uses) in pairs.chunks_exact_mut(2).zip(uses) {
                 pair.copy_from_slice(&uses.to_be_bytes());
             }
         }
-        numbers(both)
+        (numbers(both), both_confirmed)
     }
 
     fn read_by_boundary(&mut self, case: &ListCase) -> Numbers {
@@ -106,7 +115,7 @@ impl LentBoth {
         all
     }
 
-    fn read_by_types(&mut self, case: &ListCase) -> Numbers {
+    fn read_by_types(&mut self, case: &ListCase) -> (Numbers, Confirmed) {
         let [list, page, uses, roles] = self.second.each_mut().map(Buffer::lent);
         let both = mekorvat::read_both(
             case.n,
@@ -118,8 +127,8 @@ impl LentBoth {
             mekorvat::Second {
                 list,
                 page,
-                uses,
-                roles,
+                uses: &mut *uses,
+                roles: &mut *roles,
             },
             self.first.scratch.lent(),
         );
@@ -129,11 +138,17 @@ impl LentBoth {
             place: answer.place(),
             agreement: answer.agreement(),
         };
-        numbers(Both {
+        let confirmed = [
+            both.first
+                .confirmed(self.first.uses.lent(), self.first.roles.lent()),
+            both.second.confirmed(uses, roles),
+        ];
+        let numbers = numbers(Both {
             first: of(both.first),
             second: of(both.second),
             rows: both.rows,
-        })
+        });
+        (numbers, confirmed)
     }
 
     fn same_as(&self, expected: &LentBoth) -> Result<(), String> {
@@ -151,14 +166,15 @@ impl Case for BothCase {
         let mut by_plain = LentBoth::of(self);
         let mut by_boundary = by_plain.clone();
         let mut by_types = by_plain.clone();
-        let expected = by_plain.read_by_plain(&self.first);
+        let (expected, confirmed) = by_plain.read_by_plain(&self.first);
 
         let found = by_boundary.read_by_boundary(&self.first);
         same("the numbers of both", found, expected)?;
         by_boundary.same_as(&by_plain)?;
 
         let found = by_types.read_by_types(&self.first);
-        same("both answers in types", found, expected)?;
+        let what = "both answers in types, and whether confirmed";
+        same(what, found, (expected, confirmed))?;
         by_types.same_as(&by_plain)?;
         Ok(expected[if expected[0] == 0 { 4 } else { 0 }] as u8)
     }

@@ -17,7 +17,9 @@ pub trait Case: Display {
 /// Wants both programs to agree, and gives their number.
 pub fn agree(case: &impl Case) -> u8 {
     case.compare().unwrap_or_else(|difference| {
-        panic!("{difference}\nto run it again: MEKORVAT_CASE='{case}' cargo test replay -- --ignored");
+        panic!(
+            "{difference}\nto run it again: MEKORVAT_CASE='{case}' cargo test replay -- --ignored"
+        );
     })
 }
 

@@ -7,6 +7,7 @@ use plain::rng::Rng;
 
 use crate::buffer::Buffer;
 use crate::case::{same, same_bytes, word, Case, Words};
+use crate::confirmed::confirmed;
 
 /// All that a list reading is given.
 pub struct ListCase {
@@ -52,6 +53,11 @@ impl Lengths {
 /// Number, rank, place and agreement.
 type Numbers = (u8, usize, usize, usize);
 
+/// The rows of a case whose list reading is not refused.
+pub fn rows_of(case: &ListCase) -> usize {
+    case.list.len() / (8 + usize::from(case.l))
+}
+
 #[derive(Clone)]
 pub struct Lent {
     pub page: Buffer,
@@ -72,7 +78,8 @@ impl Lent {
     }
 
     /// The independent decoder has 16-bit uses, so the pairs are taken apart and put back.
-    fn read_by_plain(&mut self, case: &ListCase) -> Numbers {
+    /// Gives also whether a page is confirmed, by the plain program's marks.
+    fn read_by_plain(&mut self, case: &ListCase) -> (Numbers, bool) {
         let pairs = self.uses.lent();
         let mut uses: Vec<u16> = mekorvat::uses(pairs).collect();
         let answer = plain::reading::read_list(
@@ -84,10 +91,13 @@ impl Lent {
             self.roles.lent(),
             self.scratch.lent(),
         );
-        for (pair, uses) in pairs.chunks_exact_mut(2).zip(uses) {
+        for (pair, uses) in pairs.chunks_exact_mut(2).zip(&uses) {
             pair.copy_from_slice(&uses.to_be_bytes());
         }
-        (answer.number, answer.rank, answer.place, answer.agreement)
+        let roles = self.roles.lent();
+        let confirmed = confirmed(answer.number, rows_of(case), &uses, roles);
+        let (rank, place, agreement) = (answer.rank, answer.place, answer.agreement);
+        ((answer.number, rank, place, agreement), confirmed)
     }
 
     fn read_by_boundary(&mut self, case: &ListCase) -> Numbers {
@@ -108,7 +118,7 @@ impl Lent {
         (number, rank, place, agreement)
     }
 
-    fn read_by_types(&mut self, case: &ListCase) -> Numbers {
+    fn read_by_types(&mut self, case: &ListCase) -> (Numbers, bool) {
         let answer = mekorvat::read_list(
             case.n,
             case.l,
@@ -119,7 +129,8 @@ impl Lent {
             self.scratch.lent(),
         );
         let (rank, place, agreement) = (answer.rank(), answer.place(), answer.agreement());
-        (answer.number(), rank, place, agreement)
+        let confirmed = answer.confirmed(self.uses.lent(), self.roles.lent());
+        ((answer.number(), rank, place, agreement), confirmed)
     }
 
     pub fn same_as(&self, expected: &Lent) -> Result<(), String> {
@@ -137,13 +148,14 @@ impl Case for ListCase {
         let mut by_types = by_plain.clone();
         let list = self.list.clone();
 
-        let expected = by_plain.read_by_plain(self);
+        let (expected, confirmed) = by_plain.read_by_plain(self);
         let numbers = by_boundary.read_by_boundary(self);
         same("number, rank, place, agreement", numbers, expected)?;
         by_boundary.same_as(&by_plain)?;
 
-        let numbers = by_types.read_by_types(self);
-        same("the answer in types", numbers, expected)?;
+        let found = by_types.read_by_types(self);
+        let what = "the answer in types, and whether confirmed";
+        same(what, found, (expected, confirmed))?;
         by_types.same_as(&by_plain)?;
         same_bytes("list", &self.list, &list)?;
         Ok(expected.0)

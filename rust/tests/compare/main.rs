@@ -8,6 +8,7 @@
 mod both;
 mod buffer;
 mod case;
+mod confirmed;
 mod edges;
 mod frames;
 mod known;

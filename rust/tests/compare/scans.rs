@@ -9,6 +9,7 @@ use plain::rng::Rng;
 
 use crate::buffer::noise;
 use crate::case::{agree, same, word, Case, Words};
+use crate::confirmed::confirmed;
 use crate::frames::spoil;
 use crate::rounds::{assert_frequent, rounds};
 
@@ -68,8 +69,9 @@ impl Model {
         Some((number, rank, agreement, page, uses, roles))
     }
 
-    /// Number and rows of the second list, and its page, where there is a first one.
-    fn read_other(&self) -> Option<(u8, usize, Vec<u8>)> {
+    /// Number and rows of the second list, and its page and whether it is confirmed, where there
+    /// is a first one.
+    fn read_other(&self) -> Option<(u8, usize, Vec<u8>, bool)> {
         let id = self.expected?;
         let buffers = || {
             (
@@ -96,7 +98,9 @@ impl Model {
             second,
             &mut [0; 32_768],
         );
-        (both.first.number == DONE).then_some((both.second.number, both.rows, page2))
+        let (number, rows) = (both.second.number, both.rows);
+        let confirmed = confirmed(number, rows, &uses2, &roles2);
+        (both.first.number == DONE).then_some((number, rows, page2, confirmed))
     }
 
     /// What an app is told where there is no page.
@@ -121,13 +125,18 @@ fn outcome(scan: &mut Scan) -> Option<Outcome> {
 fn compare_reading(scan: &mut Scan, model: &Model) -> Result<u8, String> {
     let expected = model.read();
     let number = expected.as_ref().map_or(FEW, |outcome| outcome.0);
-    same("the reading", outcome(scan), expected)?;
-    match scan.read() {
-        Ok(page) => {
+    same("the reading", outcome(scan), expected.clone())?;
+    match (scan.read(), expected) {
+        (Ok(page), Some((_, _, agreement, _, uses, roles))) => {
             same("the page's id", Some(page.id), model.expected)?;
             same("the rows read", page.rows, model.rows)?;
+            let confirmed = confirmed(number, model.rows, &uses, &roles);
+            same("whether it is confirmed", page.confirmed, confirmed)?;
+            let counts = (page.beyond() + usize::from(page.id.n), page.disagreeing());
+            same("its counts", counts, (agreement, model.rows - agreement))?;
         }
-        Err(next) => same("what to do next", next, model.next(number))?,
+        (Ok(_), None) => return Err("a page of no frame".to_string()),
+        (Err(next), _) => same("what to do next", next, model.next(number))?,
     }
     compare_versions(scan, model)?;
     Ok(number)
@@ -138,7 +147,8 @@ fn compare_versions(scan: &mut Scan, model: &Model) -> Result<(), String> {
     let versions = scan.read_both();
     let first = versions.map(|versions| versions.page.bytes.to_vec());
     same("the first version", first, read)?;
-    let (Ok(versions), Some((number, rows, page))) = (versions, model.read_other()) else {
+    let (Ok(versions), Some((number, rows, page, confirmed))) = (versions, model.read_other())
+    else {
         return same("whether there is another", versions.is_ok(), false);
     };
     match versions.other {
@@ -146,6 +156,7 @@ fn compare_versions(scan: &mut Scan, model: &Model) -> Result<(), String> {
         Other::Page(other) => {
             same("the second number", DONE, number)?;
             same("the second rows", other.rows, rows)?;
+            same("the second confirmed", other.confirmed, confirmed)?;
             same("the second page", other.bytes, &page)
         }
         Other::Unsettled(next) => same("what to do for the other", next, model.next(number)),

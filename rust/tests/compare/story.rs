@@ -1,4 +1,4 @@
-//! Holds the story that all this is for: page 212, saved by two phones.
+//! Holds the stories that all this is for: page 212, saved by two phones, and a frame of it misread.
 
 use mekorvat::{Next, Other, Scan};
 use plain::rng::Rng;
@@ -81,6 +81,96 @@ fn a_balance_is_scanned_again() {
     let versions = scan.read_both().unwrap();
     assert_eq!(versions.page.bytes, hers);
     assert!(matches!(versions.other, Other::Page(other) if other.bytes == others));
+}
+
+/// The page with the oil change an hour late.
+const LATE: [&str; 6] = [
+    HERS[0],
+    "Tu 1915 oil change",
+    HERS[2],
+    HERS[3],
+    HERS[4],
+    HERS[5],
+];
+
+/// One bit of one frame is misread. Every frame agrees, two more than there are entries, and the
+/// page is wrong. Only that it is not confirmed tells.
+#[test]
+fn a_wrong_page_with_every_frame_agreeing() {
+    let hers = page(HERS);
+    let mut misread = frame(&hers, 45);
+    misread[22 + 4] ^= 1;
+    let mut scan = Scan::new();
+    scan.offer(&misread).unwrap();
+    for seed in 46..53 {
+        scan.offer(&frame(&hers, seed)).unwrap();
+    }
+    let given = scan.read().unwrap();
+    assert_eq!(given.bytes, page(LATE));
+    assert_eq!((given.rows, given.agreement, given.rank), (8, 8, 6));
+    assert_eq!((given.beyond(), given.disagreeing()), (2, 0));
+    assert!(!given.confirmed);
+    assert_eq!(scan.answer().unwrap().number(), 0);
+    // Of the frames that no other frame checks, the misread one is the first.
+    let alone = scan.marks().position(|mark| mark.alone());
+    assert_eq!(alone, Some(0));
+
+    // The next frame says otherwise, and the one after it settles the page.
+    scan.offer(&frame(&hers, 53)).unwrap();
+    assert_eq!(scan.read(), Err(Next::ScanAgain));
+    scan.offer(&frame(&hers, 54)).unwrap();
+    let given = scan.read().unwrap();
+    assert_eq!(given.bytes, hers);
+    assert_eq!((given.beyond(), given.disagreeing()), (3, 1));
+    assert!(given.confirmed);
+}
+
+/// What a keeper would have had who takes the first page that comes.
+#[derive(Clone, Copy)]
+enum First {
+    Confirmed,
+    Right,
+    Wrong,
+}
+
+/// One frame is misread, in its seed or its payload, whichever it is: who scans on until the page
+/// is confirmed has what she wrote.
+#[test]
+fn scanned_on_until_confirmed() {
+    let seen = rounds("scans with a frame misread", ROUNDS, |_, rng| {
+        one_misread(rng) as u8
+    });
+    let all = [First::Confirmed, First::Right, First::Wrong];
+    assert_frequent(&seen, &all.map(|first| first as u8));
+}
+
+fn one_misread(rng: &mut Rng) -> First {
+    let hers = page(HERS);
+    let misread = rng.below(20);
+    let mut scan = Scan::new();
+    let mut first = None;
+    for arrival in 0.. {
+        let mut shown = frame(&hers, rng.draw() as u32);
+        if arrival == misread {
+            // The seed is at 15 to 18, the payload from 22 on.
+            let byte = [15 + rng.below(4), 22 + rng.below(24)][rng.below(2)];
+            shown[byte] ^= 1 + rng.below(255) as u8;
+        }
+        scan.offer(&shown).unwrap();
+        let Ok(given) = scan.read() else {
+            continue;
+        };
+        let first = *first.get_or_insert(match given.bytes == hers {
+            true if given.confirmed => First::Confirmed,
+            true => First::Right,
+            false => First::Wrong,
+        });
+        if given.confirmed {
+            assert_eq!(given.bytes, hers);
+            return first;
+        }
+    }
+    unreachable!("the list is never full before the page is confirmed");
 }
 
 /// What came of a mix of frames.
