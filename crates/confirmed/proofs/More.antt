@@ -11,7 +11,8 @@ use borrow.Author.Tests.{eqb-true, eq-eqb, ne-eqb, le-leb}
 use Rattle.space.specs.Lists.{select, count, All}
 use Rattle.space.proofs.Lists.{all-in}
 use Rattle.reading.specs.Reading.{rank, uses, picked, tie}
-use Rattle.reading.proofs.Pick.{Most, picks-most, tie-never, length-uses, length-picked}
+use Rattle.reading.specs.Properties.{Most}
+use Rattle.reading.proofs.Pick.{picks-most, tie-never, length-uses, length-picked}
 use Rattle.confirmed.specs.Confirmed.{confirmed}
 use Rattle.confirmed.proofs.Counts.{none-pass, pass-none}
 use Rattle.confirmed.proofs.Masks.{left-out}

@@ -19,7 +19,8 @@ use Rattle.rows.specs.Rows.{constraint, agrees, made}
 use Rattle.rows.proofs.Pages.{made-⊕, made-inj, agrees-made, all-made, agree-independent}
 use Rattle.reading.specs.Reading.{kept, keptRows, otherRows, rank, uses, picked, pickedRows, few, singular}
 use Rattle.reading.proofs.Kept.{kept-independent}
-use Rattle.reading.proofs.Pick.{Most, length-uses, pick-only, pick-exactly, picked-independent}
+use Rattle.reading.specs.Properties.{Most}
+use Rattle.reading.proofs.Pick.{length-uses, pick-only, pick-exactly, picked-independent}
 use Rattle.confirmed.specs.Confirmed.{confirmed, misread, IsPage, GivesPage, Enough, given}
 use Rattle.confirmed.proofs.Counts.{count-at, count-more}
 use Rattle.confirmed.proofs.Masks.{select-outside, all-place}

@@ -1,7 +1,8 @@
 -- The contract of drawing settles the answer.
 -- Assumes nothing.
 use mathlib.Core.Path.{ap}
-use Rattle.octets.proofs.Unique.{unique, Settles}
+use Rattle.octets.specs.Settles.{Settles}
+use Rattle.octets.proofs.Unique.{unique}
 use Rattle.draw.proofs.draw.Kinds as draw
 use Rattle.draw.proofs.draw.Reads as draw-contract
 
