@@ -20,14 +20,14 @@ use Rattle.reading.specs.declared.Answer.{Answer}
 use Rattle.reading.specs.declared.Answer.the-variants as answer
 use Rattle.reading.specs.Answer.{numbersOf}
 use Rattle.reading.specs.Reading.{pickedRows, pageOf}
-use Rattle.reading.specs.Outcome.{Lent, Outcome, Check, passes, refuses, wholeRows, roomy, strayFrom, checks, ended, solved, read, after, outcome, gave}
+use Rattle.reading.specs.Outcome.{Lent, Outcome, Check, passes, refuses, roomy, strayFrom, checks, ended, solved, after, outcome, gave, wholeLength, roomFor}
 use Rattle.reading.proofs.Checks.{Passed, passed, roomy-fits}
 use Rattle.reading.proofs.Demand1.{EarlyCheck, checks-early}
 use Rattle.reading.proofs.Given.{given-passes, given-read}
 use Rattle.reading.proofs.Page.{length-pageOf, pageOf-below}
 use Rattle.reading.proofs.Answer.{the-type}
 use Rattle.checks.specs.declared.Gate.the-variants as gates
-use Rattle.checks.specs.Gate.{listed, roomed, gate}
+use Rattle.checks.specs.Gate.{gate}
 use Rattle.checks.proofs.Gating.{outcome-read}
 use Rattle.reader.specs.Finish.{buffers, gives}
 use Rattle.both.specs.Both as spec
@@ -39,11 +39,11 @@ module _ (n l : ℕ) (list : List ℕ) (lent : Lent) (s : Second) where
   asked = fitsToo (gate n l (length list) (length (s .page)) (length (s .uses)) (length (s .roles)) (length (lent .scratch))) (length list) (length (s .list))
 
   pub checks-both : checksBoth n l list lent s ≡ cond asked (checks n l list lent) (refuses answer.Room)
-  unfolding checksBoth checks fitsToo gate wholeRows listed roomyToo roomy roomed rowCount
+  unfolding checksBoth checks fitsToo gate wholeLength roomyToo roomFor rowCount
   checks-both =
-      go (shape n l) (listed l (length list)) (leb (length list) (length (s .list)))
-      (roomed (n * l) (length list / rowBytes l) (length (s .page)) (length (s .uses)) (length (s .roles)) (length (lent .scratch)))
-      (roomed (n * l) (length list / rowBytes l) (length (lent .page)) (length (lent .uses)) (length (lent .roles)) (length (lent .scratch)))
+      go (shape n l) (wholeLength l (length list)) (leb (length list) (length (s .list)))
+      (roomFor (n * l) (length list / rowBytes l) (length (s .page)) (length (s .uses)) (length (s .roles)) (length (lent .scratch)))
+      (roomFor (n * l) (length list / rowBytes l) (length (lent .page)) (length (lent .uses)) (length (lent .roles)) (length (lent .scratch)))
       (strayFrom n l 0 (rowsOf l list)) refl
     where
       go : (sh wh li two one : Bool) (x : Check) → leb (length list) (length (s .list)) ≡ li
@@ -101,11 +101,11 @@ module _ (n l : ℕ) (list : List ℕ) (lent : Lent) (s : Second) where
     page-room = roomy-fits n l (rowCount l list) lent (P .roomed) .page
 
     too : roomyToo n l list (lent .scratch) s ≡ true
-    unfolding fitsToo gate wholeRows listed roomyToo roomy roomed rowCount
+    unfolding fitsToo gate wholeLength roomyToo roomFor rowCount
     too =
-        let whole : listed l (length list) ≡ true = P .listed in
+        let whole : wholeLength l (length list) ≡ true = P .listed in
         go (leb (length list) (length (s .list)))
-        (roomed (n * l) (length list / rowBytes l) (length (s .page)) (length (s .uses)) (length (s .roles)) (length (lent .scratch))) refl (rw (P .shaped, whole) at e)
+        (roomFor (n * l) (length list / rowBytes l) (length (s .page)) (length (s .uses)) (length (s .roles)) (length (lent .scratch))) refl (rw (P .shaped, whole) at e)
       where
         go : (li two : Bool) → leb (length list) (length (s .list)) ≡ li → fitsToo (cond (not two) gates.Room gates.Open) (length list) (length (s .list)) ≡ true → (li && two) ≡ true
         go li true q h = rw (sym q ∙ h)
@@ -118,7 +118,7 @@ module _ (n l : ℕ) (list : List ℕ) (lent : Lent) (s : Second) where
         record { passing = passes-too (halves .1); listed = leb-true (length list) (length (s .list)) (halves .0) }
       where
         passes-too : roomy n l (rowCount l list) (lentToo (lent .scratch) s) ≡ true → checks n l list (lentToo scratch s) ≡ passes
-        passes-too room = unfold checks roomy in rw (P .shaped, P .listed, same, room) (P .clean)
+        passes-too room = unfold checks roomFor in rw (P .shaped, P .listed, same, room) (P .clean)
 
 -- ---- the answers that code takes for no page
 

@@ -2,20 +2,17 @@
 -- Assumes nothing.
 use mathlib.Core.Path.{_≡_, refl, ap, _∙_}
 use Prim.Native.Nat.{ℕ, _+_, _*_, _^_, _≤_}
-use native.Mathlib.Nat.{mul-mod-left}
 use native.Mathlib.Omega.{arith}
 use mathlib.Core.Bool.{Bool, true, false, cond, not}
 use mathlib.Core.List.{List, [], _∷_, _++_, map}
 use lib.ListN.{length, length-map}
-use borrow.Author.Tests.{le-leb}
 use Rattle.space.specs.Lists.{Below, select}
 use Rattle.space.proofs.Lists.{length-select, marked-le, map-append, select-append, select-below, select-map}
 use Rattle.octets.specs.Octets.{flat}
-use Rattle.octets.proofs.Runs.{length-flat}
 use Rattle.rows.specs.Rows.{rowBytes, rowCount, rowsOf, constraint, agrees}
 use Rattle.rows.proofs.Lists.{rows-flat, rows-below, rowCount-flat, length-rowsOf}
-use Rattle.reading.specs.Outcome.{Lent, passes, wholeRows, mostRows, roomy, checks, read, outcome}
-use Rattle.reading.proofs.Checks.{Passed, passed, Fits, roomy-fits, fits-roomy, none-stray, inside, whole, rows-most}
+use Rattle.reading.specs.Outcome.{Lent, passes, wholeRows, roomy, checks, read, outcome}
+use Rattle.reading.proofs.Checks.{Passed, passed, Fits, roomy-fits, fits-roomy, none-stray, flat-whole, inside, whole, rows-most}
 use Rattle.checks.proofs.Gating.{outcome-read}
 use Rattle.both.specs.Both.{Second, lentToo, apart}
 use Rattle.both.specs.Parts.{Passing}
@@ -81,10 +78,7 @@ module _ (n l : ℕ) (list : List ℕ) (s : Second) (scratch : List ℕ) (P : Pa
   rest-most = omega (arith, apart-most l page (rowsOf l list), length-rowsOf l list)
 
   rest-whole : wholeRows l (flat (rowBytes l) rows) ≡ true
-  unfolding wholeRows mostRows
-  rest-whole =
-      rw (length-flat (8 + l) rows) (rw (mul-mod-left (length rows) (8 + l)) (rw (rowCount-flat l rows)
-      (le-leb (length rows) 512 (omega (arith, rest-most, rows-most n l list lent all-passed)))))
+  rest-whole = flat-whole l rows (omega (arith, rest-most, rows-most n l list lent all-passed))
 
   rest-room : roomy n l (rowCount l (flat (rowBytes l) rows)) lent ≡ true
   rest-room =

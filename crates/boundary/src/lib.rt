@@ -10,7 +10,7 @@ ghost use Rattle.reader.specs.Finish.{buffers};
 ghost use Rattle.both.specs.Parts.{second};
 ghost use Rattle.boundary.specs.Crossed.{framed, told, answered, crossed};
 ghost use Rattle.boundary.specs.CrossedBoth.{crossing, crossedBoth};
-use rows::Arrival;
+use places::Arrival;
 
 // Reads a frame: where its payload starts, and what the frame says.
 #[no_mangle]

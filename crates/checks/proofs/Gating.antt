@@ -1,6 +1,6 @@
 -- What the reader's checks say of the outcome: a refusal leaves every buffer, and a list that passes is read.
 -- Assumes nothing.
-use mathlib.Core.Path.{_≡_, refl, _∙_}
+use mathlib.Core.Path.{_≡_, refl, sym, _∙_}
 use Prim.Native.Nat.{ℕ, _*_, _/_}
 use mathlib.Core.Bool.{Bool, true, false, cond, not}
 use mathlib.Core.List.{List}
@@ -8,10 +8,10 @@ use lib.ListN.{length}
 use Rattle.rows.specs.Rows.{shape, rowBytes, rowCount, rowsOf}
 use Rattle.reading.specs.declared.Answer.{Answer}
 use Rattle.reading.specs.declared.Answer.the-variants as answer
-use Rattle.reading.specs.Outcome.{Lent, Check, passes, refuses, wholeRows, roomy, strayFrom, checks, read, after, outcome}
+use Rattle.reading.specs.Outcome.{Lent, Check, passes, refuses, strayFrom, checks, read, after, outcome, wholeLength, roomFor}
 use Rattle.checks.specs.declared.Gate.{Gate}
 use Rattle.checks.specs.declared.Gate.the-variants as gates
-use Rattle.checks.specs.Gate.{listed, roomed, gate}
+use Rattle.checks.specs.Gate.{gate}
 
 -- what the gate says, and where it is open what the rows say
 abbrev through : Gate → Check → Check
@@ -25,8 +25,8 @@ module _ (n l : ℕ) (list : List ℕ) (lent : Lent) where
   gateOf = gate n l (length list) (length (lent .page)) (length (lent .uses)) (length (lent .roles)) (length (lent .scratch))
 
   checks-gate : checks n l list lent ≡ through gateOf (strayFrom n l 0 (rowsOf l list))
-  unfolding checks gate wholeRows listed roomy roomed rowCount
-  checks-gate = go (shape n l) (listed l (length list)) (roomed (n * l) (length list / rowBytes l) (length (lent .page)) (length (lent .uses)) (length (lent .roles)) (length (lent .scratch)))
+  unfolding checks gate wholeLength roomFor rowCount
+  checks-gate = go (shape n l) (wholeLength l (length list)) (roomFor (n * l) (length list / rowBytes l) (length (lent .page)) (length (lent .uses)) (length (lent .roles)) (length (lent .scratch)))
     where
       go : (s w r : Bool) → cond (not s) (refuses answer.Shape) (cond (not w) (refuses answer.List) (cond (not r) (refuses answer.Room) (strayFrom n l 0 (rowsOf l list))))
           ≡ through (cond (not s) gates.Shape (cond (not w) gates.List (cond (not r) gates.Room gates.Open))) (strayFrom n l 0 (rowsOf l list))
@@ -35,29 +35,26 @@ module _ (n l : ℕ) (list : List ℕ) (lent : Lent) where
       go true true false = refl
       go true true true = refl
 
-  outcome-refused : (a : Answer) → checks n l list lent ≡ refuses a → outcome n l list lent ≡ record { answer = a; lent = lent }
-  unfolding outcome after
-  outcome-refused a e = rw e
-
   module _ (g : Gate) (e : g ≡ gateOf) where
     through-gate : checks n l list lent ≡ through g (strayFrom n l 0 (rowsOf l list))
     through-gate = checks-gate ∙ rw e
 
-  pub shape-refused : gates.Shape ≡ gateOf → outcome n l list lent ≡ record { answer = answer.Shape; lent = lent }
-  shape-refused e = outcome-refused answer.Shape (through-gate gates.Shape e)
+  pub shape-refused : gates.Shape ≡ gateOf → refuses answer.Shape ≡ checks n l list lent
+  shape-refused e = sym (through-gate gates.Shape e)
 
-  pub list-refused : gates.List ≡ gateOf → outcome n l list lent ≡ record { answer = answer.List; lent = lent }
-  list-refused e = outcome-refused answer.List (through-gate gates.List e)
+  pub list-refused : gates.List ≡ gateOf → refuses answer.List ≡ checks n l list lent
+  list-refused e = sym (through-gate gates.List e)
 
-  pub room-refused : gates.Room ≡ gateOf → outcome n l list lent ≡ record { answer = answer.Room; lent = lent }
-  room-refused e = outcome-refused answer.Room (through-gate gates.Room e)
+  pub room-refused : gates.Room ≡ gateOf → refuses answer.Room ≡ checks n l list lent
+  room-refused e = sym (through-gate gates.Room e)
 
-  module _ (open-gate : gates.Open ≡ gateOf) where
-    pub stray-refused : (a : Answer) → refuses a ≡ strayFrom n l 0 (rowsOf l list) → outcome n l list lent ≡ record { answer = a; lent = lent }
-    stray-refused a e = outcome-refused a (through-gate gates.Open open-gate ∙ rw e)
+  -- past the gate the rows decide
+  pub rows-decide : gates.Open ≡ gateOf → (k : Check) → k ≡ strayFrom n l 0 (rowsOf l list) → k ≡ checks n l list lent
+  rows-decide open-gate k e = e ∙ sym (through-gate gates.Open open-gate)
 
-    pub all-pass : passes ≡ strayFrom n l 0 (rowsOf l list) → checks n l list lent ≡ passes
-    all-pass e = through-gate gates.Open open-gate ∙ rw e
+  pub outcome-refused : (a : Answer) → refuses a ≡ checks n l list lent → record { answer = a; lent = lent } ≡ outcome n l list lent
+  unfolding outcome after
+  outcome-refused a e = rw (← e)
 
   pub outcome-read : checks n l list lent ≡ passes → outcome n l list lent ≡ read n l (rowsOf l list) lent
   unfolding outcome after

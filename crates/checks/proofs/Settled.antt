@@ -12,6 +12,11 @@ use Rattle.checks.proofs.check.Kinds as check
 use Rattle.checks.proofs.check.Reads as check-contract
 use Rattle.checks.proofs.first_stray.Kinds as first-stray
 use Rattle.checks.proofs.first_stray.Reads as first-stray-contract
+use Rattle.checks.proofs.whole.Kinds as whole
+use Rattle.checks.proofs.whole.Reads as whole-contract
+
+pub whole-settled : Settles whole.ps whole.r whole-contract.Post
+whole-settled κs args = unique (λ o is. ap (λ r. (r, (tt, (tt, tt)))) is)
 
 pub check-settled : Settles check.ps check.r check-contract.Post
 check-settled κs args = unique (λ o is. ap (λ r. (r, (tt, (tt, (tt, (tt, (tt, (tt, (tt, tt))))))))) is)

@@ -5,9 +5,9 @@ ghost use lib.Dec.{leb};
 ghost use lib.ListN.{length};
 ghost use Rattle.octets.specs.Octets.{number};
 ghost use Rattle.rows.specs.Rows.{rowsOf, constraint};
-ghost use Rattle.reading.specs.Outcome.{strayFrom};
-ghost use Rattle.checks.specs.Gate.{gate, listed, roomed, strayCheck};
-use rows::Arrival;
+ghost use Rattle.reading.specs.Outcome.{wholeLength, roomFor, strayFrom};
+ghost use Rattle.checks.specs.Gate.{gate, strayCheck};
+use places::Arrival;
 
 // What the checks 1 to 3 say.
 pub enum Gate {
@@ -17,18 +17,23 @@ pub enum Gate {
     Room,
 }
 
-fn list_fits(l: u8, list: usize) -> bool
-    ensures { λ r. ⌜ r ≡ listed l list ⌝ }
+// "scratch (at least 32,768 bytes)".
+pub const SCRATCH: usize = 32768;
+
+// Whether a list of so many bytes has whole rows, at most 512.
+pub fn whole(l: u8, list: usize) -> bool
+    ensures { λ r. ⌜ r ≡ wholeLength l list ⌝ }
 {
     let w = 8 + l as usize;
     if list % w != 0 {
         return false;
     }
-    list / w <= 512
+    list / w <= places::MOST_ROWS
 }
 
+// Whether the page room, uses, roles and scratch of these lengths are long enough.
 fn room_fits(bytes: usize, m: usize, page: usize, uses: usize, roles: usize, scratch: usize) -> bool
-    ensures { λ r. ⌜ r ≡ roomed bytes m page uses roles scratch ⌝ }
+    ensures { λ r. ⌜ r ≡ roomFor bytes m page uses roles scratch ⌝ }
 {
     if page < bytes {
         return false;
@@ -39,7 +44,7 @@ fn room_fits(bytes: usize, m: usize, page: usize, uses: usize, roles: usize, scr
     if roles < m {
         return false;
     }
-    32768 <= scratch
+    SCRATCH <= scratch
 }
 
 pub fn check(
@@ -56,7 +61,7 @@ pub fn check(
     if !rows::shaped(n, l) {
         return Gate::Shape;
     }
-    if !list_fits(l, list) {
+    if !whole(l, list) {
         return Gate::List;
     }
     let m = list / (8 + l as usize);

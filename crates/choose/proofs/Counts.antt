@@ -1,7 +1,7 @@
 -- Counting along a list, and the loop that does it.
 -- Assumes nothing.
 use mathlib.Core.Path.{_≡_, refl, sym, ap, _∙_}
-use Prim.Native.Nat.{ℕ, zero, suc, _+_, _≤_, _<_}
+use Prim.Native.Nat.{ℕ, suc, _+_, _≤_, _<_}
 use native.Mathlib.Numerals.{add-one}
 use native.Mathlib.Omega.{arith}
 use mathlib.Core.Bool.{Bool, true, false, cond, false≢true}
@@ -51,22 +51,12 @@ unfolding count
 count-beyond t [] b = refl
 count-beyond t (x ∷ xs) b = rw (lt-leb t x (b .0)) (count-beyond t xs (b .1))
 
-pub count-next : (p : ℕ → Bool) (xs : List ℕ) (i : ℕ) → i < length xs → count p (take (i + 1) xs) ≡ count p (take i xs) + boolByte (p (getD xs i 0))
+count-next : (p : ℕ → Bool) (xs : List ℕ) (i : ℕ) → i < length xs → count p (take (i + 1) xs) ≡ count p (take i xs) + boolByte (p (getD xs i 0))
 count-next p xs i h = rw (add-one i, take-suc xs i 0 h, count-snoc p (take i xs) (getD xs i 0)) (go (p (getD xs i 0)))
   where
     go : (b : Bool) → cond b (suc (count p (take i xs))) (count p (take i xs)) ≡ count p (take i xs) + boolByte b
     go true = omega arith
     go false = omega arith
-
-pub count-take : (p : ℕ → Bool) (k : ℕ) (xs : List ℕ) → count p (take k xs) ≤ count p xs
-unfolding count
-count-take p zero xs = omega arith
-count-take p (suc k) [] = omega arith
-count-take p (suc k) (x ∷ xs) = go (p x) (count-take p k xs)
-  where
-    go : (b : Bool) → count p (take k xs) ≤ count p xs → cond b (suc (count p (take k xs))) (count p (take k xs)) ≤ cond b (suc (count p xs)) (count p xs)
-    go true h = omega arith
-    go false h = h
 
 -- A loop that counts along a list, at turn i.
 pub record Counting (p : ℕ → Bool) (xs : List ℕ) (sum i : ℕ) : Type 0 where

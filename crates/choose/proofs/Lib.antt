@@ -1,5 +1,4 @@
 mod Counts
-mod Pairs
 pub mod Threshold
 pub mod Chosen
 mod Marking

@@ -1,18 +1,13 @@
 -- Which kept rows are picked, said by one number: the fewest uses that a picked row can have. Document 01, "How a list is read".
-use Prim.Native.Nat.{ℕ, suc, _/_, max}
+use Prim.Native.Nat.{ℕ, suc, max}
 use mathlib.Core.Bool.{cond, not}
 use mathlib.Core.List.{List, [], _∷_, map}
 use lib.Dec.{eqb, ltb}
 use lib.ListN.{length}
 use Rattle.space.specs.Lists.{select, marked}
-use Rattle.octets.specs.Octets.{numbers}
 use Rattle.reading.specs.Reading.{picks}
 use Rattle.choose.specs.declared.Choice.{Choice}
 use Rattle.choose.specs.declared.Choice.the-variants.{Few, Tie, Picked}
-
--- The uses by kept place, from the bytes that count them, 2 for each place.
-abbrev pub usesIn : List ℕ → List ℕ
-usesIn counts = numbers 2 (length counts / 2) counts
 
 -- More uses than two bytes can count.
 abbrev pub nonePicked : ℕ

@@ -12,7 +12,7 @@ use Rattle.octets.specs.Octets.{flat}
 use Rattle.rows.specs.Rows.{symbols, rowCount, rowsOf, constraint}
 use Rattle.reading.specs.Answer.{numbersOf}
 use Rattle.reading.specs.Reading.{rank}
-use Rattle.reading.specs.Outcome.{Lent, passes, strayFrom, wholeRows, checks, read, after, outcome, gave}
+use Rattle.reading.specs.Outcome.{Lent, passes, strayFrom, checks, read, after, outcome, gave, wholeLength}
 use Rattle.reading.proofs.Checks.{Passed, passed, inside, none-stray}
 use Rattle.reading.proofs.Given.{given-passes}
 use Rattle.confirmed.specs.Confirmed.{GivesPage, given, Unused, Untold}
@@ -26,7 +26,7 @@ list-read n l list lent p = rw p
 
 checks-alike : (n l : ℕ) (list new : List ℕ) (lent : Lent) → length new ≡ length list → strayFrom n l 0 (rowsOf l new) ≡ strayFrom n l 0 (rowsOf l list)
     → checks n l new lent ≡ checks n l list lent
-unfolding checks wholeRows rowCount
+unfolding checks wholeLength rowCount
 checks-alike n l list new lent size e = rw (size, e)
 
 module _ (n l : ℕ) (list : List ℕ) (lent : Lent) (e : gave (outcome n l list lent) ≡ true) (full : rank (rowsOf l list) ≡ n)

@@ -1,19 +1,16 @@
 -- Demand 2, from written frames to a page: frames written from one page with any seeds, in any order, with frames of other pages or shapes and
 -- frames that break the layout in between, laid one after the other and read, give that page whenever their rank reaches the number of symbols.
 -- Assumes nothing.
-use mathlib.Core.Path.{_≡_, refl, _∙_}
-use Prim.Native.Nat.{ℕ, suc, _+_, _*_, _^_, _≤_, _<_}
-use native.Mathlib.Nat.{mul-mod-left}
+use mathlib.Core.Path.{_≡_, _∙_}
+use Prim.Native.Nat.{ℕ, _+_, _*_, _^_, _≤_, _<_}
 use native.Mathlib.Omega.{arith}
 use mathlib.Core.Bool.{true}
 use mathlib.Core.List.{List, [], _∷_, map}
 use lib.ListN.{length, length-map}
 use lib.Pow.{pow-mono}
-use borrow.Author.Tests.{le-leb, lt-leb}
 use Rattle.space.specs.Lists.{All, Below}
 use Rattle.space.proofs.Lists.{below-more}
 use Rattle.octets.specs.Octets.{flat}
-use Rattle.octets.proofs.Runs.{length-flat}
 use Rattle.rows.specs.Rows.{shape, symbols, rowBytes, rowsOf, constraint, agrees, made}
 use Rattle.rows.proofs.Lists.{rowCount-flat, rows-flat}
 use Rattle.rows.proofs.Pages.{symbols-below, made-constraint, made-agrees}
@@ -24,7 +21,8 @@ use Rattle.draw.specs.Draw as draw
 use Rattle.draw.proofs.Laws.{drawn-below}
 use Rattle.reading.specs.declared.Answer.the-variants as answer
 use Rattle.reading.specs.Reading.{rank}
-use Rattle.reading.specs.Outcome.{Lent, passes, mostRows, wholeRows, roomy, strayFrom, checks, outcome, ended, telling}
+use Rattle.reading.specs.Outcome.{Lent, passes, roomy, checks, outcome, ended, telling}
+use Rattle.reading.proofs.Checks.{none-stray, flat-whole}
 use Rattle.reading.proofs.Demand2.{demand-2}
 use Rattle.writing.specs.Writing.{frameOf}
 use Rattle.crossing.proofs.Sent.{frame-reads, frame-row}
@@ -34,17 +32,10 @@ use Rattle.crossing.proofs.Laid.{Own, caught-list}
 
 -- ---- a list of rows passes the checks
 
-stray-passes : (n l i : ℕ) (rows : List ℕ) → Below (2 ^ n) (map (constraint l) rows) → strayFrom n l i rows ≡ passes
-unfolding strayFrom
-stray-passes n l i [] b = refl
-stray-passes n l i (r ∷ rows) b = rw (lt-leb (2 ^ n) (constraint l r) (b .0)) (stray-passes n l (suc i) rows (b .1))
-
 pub flat-passes : (n l : ℕ) (rows : List ℕ) → shape n l ≡ true → length rows ≤ 512 → Below (2 ^ (8 * rowBytes l)) rows → Below (2 ^ n) (map (constraint l) rows)
     → (lent : Lent) → roomy n l (length rows) lent ≡ true → checks n l (flat (rowBytes l) rows) lent ≡ passes
-unfolding checks wholeRows mostRows
-flat-passes n l rows s most b inside lent room =
-    rw s (rw (length-flat (8 + l) rows) (rw (mul-mod-left (length rows) (8 + l)) (rw (rowCount-flat l rows) (rw (le-leb (length rows) 512 most)
-    (rw room (rw (rows-flat l rows b) (stray-passes n l 0 rows inside)))))))
+unfolding checks
+flat-passes n l rows s most b inside lent room = rw (s, flat-whole l rows most, rowCount-flat l rows, room, rows-flat l rows b) (none-stray n l 0 rows inside)
 
 -- ---- frames of one page, and others
 

@@ -8,8 +8,9 @@ use lib.Dec.{leb, ltb}
 use lib.ListN.{length}
 use borrow.Author.Tests.{le-leb, lt-leb, leb-true, lt-ltb, le-ltb, ltb-true}
 use Rattle.echelon.specs.declared.Absorbed.the-variants.{Kept, Other, Misfit}
+use Rattle.octets.specs.Octets.{bytes}
 use Rattle.basis.specs.Algorithm2.{Pass}
-use Rattle.echelon.specs.State.{mostKept, stateBytes, gives, keptState, countedState, taken, takes, absorption, passIn}
+use Rattle.echelon.specs.State.{mostKept, vectorBytes, stateBytes, gives, keptState, countedState, taken, takes, absorption, passIn}
 use Rattle.space.proofs.Both.{both}
 
 -- ---- what fits
@@ -70,7 +71,7 @@ module _ (key : ℕ) (p : Pass) (m r : ℕ) (state : List ℕ) where
   unfolding taken
   taken-other h = rw (le-ltb (p .place) (8 * key) h)
 
-  pub taken-kept : p .place < 8 * key → r < mostKept → taken key p m r state ≡ gives Kept (keptState (p .place) (p .vector) m r state)
+  pub taken-kept : p .place < 8 * key → r < mostKept → taken key p m r state ≡ gives Kept (keptState (p .place) (bytes vectorBytes (p .vector)) m r state)
   unfolding taken
   taken-kept h l = rw (lt-ltb (p .place) (8 * key) h) (rw (lt-ltb r mostKept l))
 

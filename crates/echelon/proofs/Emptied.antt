@@ -1,6 +1,6 @@
 -- What fits `eliminate`, its outcome either way, and the state that it starts from.
 -- Assumes nothing.
-use mathlib.Core.Path.{_≡_, ap, _∙_}
+use mathlib.Core.Path.{_≡_, refl, ap, _∙_}
 use mathlib.Core.List.{List, _++_}
 use mathlib.Core.Bool.{true, false, _&&_}
 use Prim.Native.Nat.{ℕ, _≤_, _<_}
@@ -10,8 +10,9 @@ use lib.ListN.{length, take, drop, replicate, length-replicate}
 use borrow.Author.Tests.{le-leb, lt-leb, leb-true}
 use Rattle.octets.specs.Octets.{over}
 use Rattle.rows.specs.Rows.{rowBytes, rowCount, rowsOf}
+use Rattle.echelon.specs.declared.Eliminated.the-variants.{Rank, Misfit}
 use Rattle.echelon.specs.State.{stateBytes}
-use Rattle.echelon.specs.Eliminating.{absorbEach, emptied, eliminates, elimination}
+use Rattle.echelon.specs.Eliminating.{Elimination, absorbEach, emptied, eliminates, elimination}
 use Rattle.space.proofs.Both.{both}
 
 pub record Eliminates (l m room : ℕ) : Type 0 where
@@ -53,14 +54,17 @@ module _ (l m room : ℕ) where
 -- ---- the outcome
 
 module _ (l : ℕ) (list state : List ℕ) where
-  pub eliminated-so : eliminates l (rowCount l list) (length state) ≡ true
-      → absorbEach (rowBytes l) 0 (rowsOf l list) (record { state = emptied state; rank = 0 }) ≡ elimination l list state
-  unfolding elimination
-  eliminated-so e = rw e
+  abbrev pub whole : Elimination
+  whole = absorbEach (rowBytes l) 0 (rowsOf l list) (record { state = emptied state; rank = 0 })
 
-  pub eliminated-not : eliminates l (rowCount l list) (length state) ≡ false → record { state = state; rank = 0 } ≡ elimination l list state
+  pub eliminated-so : eliminates l (rowCount l list) (length state) ≡ true
+      → (Rank (whole .rank) ≡ elimination l list state .answer) × (whole .state ≡ elimination l list state .state)
   unfolding elimination
-  eliminated-not e = rw e
+  eliminated-so e = rw e (refl, refl)
+
+  pub eliminated-not : eliminates l (rowCount l list) (length state) ≡ false → (Misfit ≡ elimination l list state .answer) × (state ≡ elimination l list state .state)
+  unfolding elimination
+  eliminated-not e = rw e (refl, refl)
 
 -- ---- the state made empty, as a part that came back
 

@@ -8,11 +8,12 @@ use lib.ListN.{length, replicate, length-replicate}
 use Rattle.space.specs.Lists.{select, tabulate}
 use Rattle.octets.specs.Octets.{numbers, over}
 use Rattle.octets.proofs.Runs.{length-over, take-over}
+use Rattle.places.specs.Places.{placesAfter}
 use Rattle.rows.specs.Rows.{rowBytes}
 use Rattle.reading.specs.Reading.{kept, keptAfter, keptRows, otherRows, rank, uses, usesOf}
 use Rattle.basis.specs.Algorithm2.{steps, start, algorithm2}
 use Rattle.slots.specs.Reducing.{slotsOf}
-use Rattle.echelon.specs.State.{vectorBytes, stateBytes, slotsIn, usesIn, flagsIn}
+use Rattle.echelon.specs.State.{vectorBytes, stateBytes, slotsIn, usesIn, placesIn}
 use Rattle.echelon.specs.Holds.{Holds}
 use Rattle.echelon.specs.Eliminating.{emptied}
 use Rattle.echelon.proofs.Places.{sizes, slots-end}
@@ -45,5 +46,5 @@ module _ (l : ℕ) (state : List ℕ) (some : 1 ≤ l) (most : l ≤ 32) (room :
         below = tt;
         slots = empty-slots ∙ unfold algorithm2 steps start in refl;
         uses = unfold rank uses usesOf kept keptRows otherRows keptAfter select tabulate usesIn numbers in refl;
-        flags = unfold kept keptAfter flagsIn in refl;
+        places = unfold kept keptAfter placesIn placesAfter numbers in refl;
       }

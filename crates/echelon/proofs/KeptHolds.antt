@@ -2,28 +2,30 @@
 -- Assumes nothing.
 use mathlib.Core.Path.{_≡_, refl, sym, ap, ap₂, _∙_}
 use mathlib.Core.Bool.{true, false, not}
-use mathlib.Core.List.{List, [], _∷_, _++_, map}
+use mathlib.Core.List.{List, [], _∷_, _++_}
 use Prim.Native.Nat.{ℕ, suc, _+_, _*_, _^_, _≤_, _<_}
 use native.Mathlib.Omega.{arith}
-use lib.ListN.{length, set}
+use lib.Dec.{lit<}
+use lib.ListN.{length, drop, set}
 use lib.Pow.{pow-lt}
 use borrow.Author.Tests.{ltb-true}
 use Rattle.space.specs.Space.{_⊕_, spans}
-use Rattle.space.proofs.Lists.{map-append}
 use Rattle.space.proofs.Xor.{⊕-lt}
-use Rattle.octets.specs.Octets.{bytes, lay}
-use Rattle.octets.proofs.Numbers.{length-bytes}
+use Rattle.octets.specs.Octets.{number, bytes, numbers, lay}
+use Rattle.octets.proofs.Numbers.{length-bytes, number-bytes}
 use Rattle.octets.proofs.Lay.{length-lay}
+use Rattle.places.specs.Places.{placesOf}
+use Rattle.places.proofs.OneMore.{places-snoc}
 use Rattle.reading.specs.Reading.{kept, keptRows, rank, uses}
 use Rattle.reading.proofs.OneMore.{kept-snoc}
 use Rattle.basis.specs.Algorithm2.{Pass, Working, keeping, step}
-use Rattle.echelon.specs.State.{mostKept, vectorBytes, tailDigits, usesAt, flagsAt, headsAt, usesIn, flagsIn, headAt, headOf, keptState}
-use Rattle.echelon.specs.Holds.{Holds, flagOf}
+use Rattle.echelon.specs.State.{mostKept, vectorBytes, tailDigits, usesAt, placesAt, headsAt, usesIn, placesIn, headAt, headOf, placedState, keptState}
+use Rattle.echelon.specs.Holds.{Holds}
 use Rattle.basis.proofs.Model.{rank-most, step-kept}
 use Rattle.echelon.proofs.Places.{sizes, tail-size, slot-end, head-end, length-headOf}
 use Rattle.echelon.proofs.Offers.{Offer, key, before, p, narrow, wide, right, all-below, next, pass-is, ranked, longer, slots-next, test, vector-lt}
-use Rattle.reading.proofs.Ranks.{rank-kept}
-use Rattle.echelon.proofs.Written.{slots-stay, uses-below, uses-above, flags-above, flags-stay, flags-more, slots-more, uses-more}
+use Rattle.reading.proofs.Ranks.{rank-kept, rank-marked}
+use Rattle.echelon.proofs.Written.{slots-stay, pairs-before, pairs-behind, pairs-more, slots-more}
 
 module _ {l : ℕ} {rows : List ℕ} {row : ℕ} {state : List ℕ} (O : Offer l rows row state) (e : spans (keptRows rows) row ≡ false) where
   keeping-is : step (tailDigits (key O)) row (before O) ≡ keeping (p O) (before O)
@@ -41,88 +43,101 @@ module _ {l : ℕ} {rows : List ℕ} {row : ℕ} {state : List ℕ} (O : Offer l
   place-left = omega (arith, sizes, one-more, rank-most (8 * key O) (rows ++ (row ∷ [])) (all-below O), O .holds .most)
 
   -- the vector fits its slot
+  vector-fits : p O .vector < 2 ^ (8 * vectorBytes)
+  vector-fits = rw (tail-size (key O) (narrow O) .0) at (vector-lt O stops)
+
+  abbrev vector : List ℕ
+  vector = bytes vectorBytes (p O .vector)
+
   abbrev x : ℕ
-  x = p O .vector ⊕ 2 ^ rank rows
+  x = number vector ⊕ 2 ^ rank rows
+
+  x-is : x ≡ p O .vector ⊕ 2 ^ rank rows
+  x-is = ap (λ (v : ℕ). v ⊕ 2 ^ rank rows) (number-bytes vectorBytes (p O .vector) vector-fits)
 
   x-lt : x < 2 ^ (8 * vectorBytes)
-  x-lt =
-      let power : 2 ^ rank rows < 2 ^ (tailDigits (key O) + 8 * key O) = pow-lt (omega (arith, place-left, tail-size (key O) (narrow O))) in
-      rw (tail-size (key O) (narrow O) .0) at (⊕-lt (tailDigits (key O) + 8 * key O) (p O .vector) (2 ^ rank rows) (vector-lt O stops) power)
+  x-lt = rw x-is (⊕-lt (8 * vectorBytes) (p O .vector) (2 ^ rank rows) vector-fits (pow-lt (omega (arith, place-left, sizes))))
 
   -- ---- the four parts laid
 
-  first-slots : p O .place < 320
-  first-slots = omega (arith, stops, narrow O)
+  first-slots : p O .place < mostKept
+  first-slots = omega (arith, sizes, stops, narrow O)
 
-  abbrev slot : List ℕ
-  slot = lay (p O .place * vectorBytes) (bytes vectorBytes x) state
+  abbrev given : List ℕ
+  given = lay (placesAt + 2 * length rows) (bytes 2 (rank rows + 1)) state
 
-  slot-below : p O .place * vectorBytes + length (bytes vectorBytes x) ≤ usesAt
-  slot-below = omega (arith, length-bytes vectorBytes x, slot-end (p O .place) first-slots)
+  given-room : placesAt + 2 * length rows + length (bytes 2 (rank rows + 1)) ≤ headsAt
+  given-room = omega (arith, length-bytes 2 (rank rows + 1), sizes, O .more)
 
-  slot-room : p O .place * vectorBytes + length (bytes vectorBytes x) ≤ length state
-  slot-room = omega (arith, slot-below, sizes, O .holds .room)
+  given-fits : placesAt + 2 * length rows + length (bytes 2 (rank rows + 1)) ≤ length state
+  given-fits = omega (arith, given-room, sizes, O .holds .room)
 
-  slot-long : length slot ≡ length state
-  slot-long = length-lay (p O .place * vectorBytes) (bytes vectorBytes x) state slot-room
+  given-long : length given ≡ length state
+  given-long = length-lay (placesAt + 2 * length rows) (bytes 2 (rank rows + 1)) state given-fits
 
-  abbrev head : List ℕ
-  head = lay (headAt (p O .place)) (headOf (p O .place) (bytes vectorBytes x)) slot
+  abbrev unused : List ℕ
+  unused = lay (usesAt + 2 * rank rows) (bytes 2 0) given
 
-  head-room : headAt (p O .place) + length (headOf (p O .place) (bytes vectorBytes x)) ≤ length slot
-  head-room = omega (arith, length-headOf (p O .place) (bytes vectorBytes x), head-end (p O .place) first-slots, slot-long, O .holds .room)
+  unused-below : usesAt + 2 * rank rows + length (bytes 2 0) ≤ placesAt
+  unused-below = omega (arith, sizes, length-bytes 2 0, place-left)
 
-  head-long : length head ≡ length state
-  head-long = length-lay (headAt (p O .place)) (headOf (p O .place) (bytes vectorBytes x)) slot head-room ∙ slot-long
+  unused-fits : usesAt + 2 * rank rows + length (bytes 2 0) ≤ length given
+  unused-fits = omega (arith, unused-below, sizes, given-long, O .holds .room)
+
+  unused-long : length unused ≡ length state
+  unused-long = length-lay (usesAt + 2 * rank rows) (bytes 2 0) given unused-fits ∙ given-long
+
+  abbrev headed : List ℕ
+  headed = lay (headAt (p O .place)) (headOf (p O .place) vector) unused
+
+  headed-fits : headAt (p O .place) + length (headOf (p O .place) vector) ≤ length unused
+  headed-fits = omega (arith, length-headOf (p O .place) vector, head-end (p O .place) first-slots, unused-long, O .holds .room)
+
+  headed-long : length headed ≡ length state
+  headed-long = length-lay (headAt (p O .place)) (headOf (p O .place) vector) unused headed-fits ∙ unused-long
 
   -- a head lies behind all that is held
   behind : headsAt ≤ headAt (p O .place)
   behind = head-end (p O .place) first-slots .0
 
-  abbrev pair : List ℕ
-  pair = lay (usesAt + 2 * rank rows) (bytes 2 0) head
+  slot-below : p O .place * vectorBytes + length (bytes vectorBytes x) ≤ usesAt
+  slot-below = omega (arith, length-bytes vectorBytes x, slot-end (p O .place) first-slots)
 
-  pair-below : usesAt + 2 * rank rows + length (bytes 2 0) ≤ flagsAt
-  pair-below = omega (arith, sizes, length-bytes 2 0, place-left)
+  slot-fits : p O .place * vectorBytes + length (bytes vectorBytes x) ≤ length headed
+  slot-fits = omega (arith, slot-below, sizes, headed-long, O .holds .room)
 
-  pair-room : usesAt + 2 * rank rows + length (bytes 2 0) ≤ length head
-  pair-room = omega (arith, pair-below, sizes, head-long, O .holds .room)
+  placed : placesOf (kept (rows ++ (row ∷ []))) ≡ placesOf (kept rows) ++ ((rank rows + 1) ∷ [])
+  placed =
+      ap placesOf (kept-snoc rows row ∙ rw e) ∙ places-snoc 0 (kept rows) true
+      ∙ ap (λ (r : ℕ). placesOf (kept rows) ++ (r ∷ [])) (omega (arith, rank-marked rows))
 
-  pair-long : length pair ≡ length state
-  pair-long = length-lay (usesAt + 2 * rank rows) (bytes 2 0) head pair-room ∙ head-long
-
-  flag-room : flagsAt + length rows + 1 ≤ length pair
-  flag-room = omega (arith, pair-long, sizes, O .holds .room, O .more)
-
-  flagged : kept (rows ++ (row ∷ [])) ≡ kept rows ++ (true ∷ [])
-  flagged = kept-snoc rows row ∙ rw e
-
-  pub kept-holds : Holds l (rows ++ (row ∷ [])) (keptState (p O .place) (p O .vector) (length rows) (rank rows) state)
-  unfolding keptState
+  pub kept-holds : Holds l (rows ++ (row ∷ [])) (keptState (p O .place) vector (length rows) (rank rows) state)
+  unfolding keptState placedState usesIn placesIn
   kept-holds =
       record {
         some = O .holds .some;
         most = O .holds .most;
-        room = omega (arith, O .holds .room, pair-long, length-lay (flagsAt + length rows) (1 ∷ []) pair flag-room);
+        room = omega (arith, O .holds .room, headed-long, length-lay (p O .place * vectorBytes) (bytes vectorBytes x) headed slot-fits);
         many = omega (arith, longer O, O .more);
         below = all-below O;
-        slots = slots-stay (flagsAt + length rows) (1 ∷ []) pair flag-room (key O) (narrow O) (omega (arith, sizes))
-            ∙ slots-stay (usesAt + 2 * rank rows) (bytes 2 0) head pair-room (key O) (narrow O) (omega arith)
-            ∙ slots-stay (headAt (p O .place)) (headOf (p O .place) (bytes vectorBytes x)) slot head-room (key O) (narrow O) (omega (arith, behind, sizes))
-            ∙ slots-more (key O) (p O .place) x (rank rows) state (narrow O) stops (O .holds .room) x-lt
-            ∙ ap₂ (λ (ss : List ℕ) (n : ℕ). set ss (p O .place) (p O .vector ⊕ 2 ^ n)) (O .holds .slots) (sym (ranked O))
+        slots = slots-more (key O) (p O .place) x headed (narrow O) stops (omega (arith, headed-long, O .holds .room)) x-lt
+            ∙ ap₂ (λ (ss : List ℕ) (y : ℕ). set ss (p O .place) y)
+            (slots-stay (headAt (p O .place)) (headOf (p O .place) vector) unused headed-fits (key O) (narrow O) (omega (arith, behind, sizes))
+            ∙ slots-stay (usesAt + 2 * rank rows) (bytes 2 0) given unused-fits (key O) (narrow O) (omega arith)
+            ∙ slots-stay (placesAt + 2 * length rows) (bytes 2 (rank rows + 1)) state given-fits (key O) (narrow O) (omega (arith, sizes)) ∙ O .holds .slots)
+            (x-is ∙ ap (λ (n : ℕ). p O .vector ⊕ 2 ^ n) (sym (ranked O)))
             ∙ sym (slots-next O ∙ ap (λ (s : Working). s .slots) keeping-is ∙ unfold keeping in refl);
-        uses = ap (λ (n : ℕ). usesIn n (lay (flagsAt + length rows) (1 ∷ []) pair)) one-more
-            ∙ uses-above (flagsAt + length rows) (1 ∷ []) pair flag-room (suc (rank rows)) place-left (omega arith)
-            ∙ uses-more (rank rows) head place-left (omega (arith, head-long, O .holds .room))
-            ∙ ap (λ (us : List ℕ). us ++ (0 ∷ [])) (uses-above (headAt (p O .place)) (headOf (p O .place) (bytes vectorBytes x)) slot head-room (rank rows) (omega (arith, place-left)) (omega (arith, behind, sizes))
-            ∙ uses-below (p O .place * vectorBytes) (bytes vectorBytes x) state slot-room (rank rows) slot-below
-            ∙ O .holds .uses ∙ sym (right O .uses))
+        uses = ap (λ (n : ℕ). numbers 2 n (drop usesAt (lay (p O .place * vectorBytes) (bytes vectorBytes x) headed))) one-more
+            ∙ pairs-behind (p O .place * vectorBytes) (bytes vectorBytes x) headed slot-fits usesAt (suc (rank rows)) slot-below
+            ∙ pairs-before (headAt (p O .place)) (headOf (p O .place) vector) unused headed-fits usesAt (suc (rank rows)) (omega (arith, behind, sizes, place-left))
+            ∙ pairs-more usesAt (rank rows) 0 given (lit< tt) (omega (arith, given-long, sizes, place-left, O .holds .room))
+            ∙ ap (λ (us : List ℕ). us ++ (0 ∷ [])) (pairs-before (placesAt + 2 * length rows) (bytes 2 (rank rows + 1)) state given-fits usesAt (rank rows) (omega (arith, sizes, place-left))
+            ∙ (unfold usesIn in O .holds .uses) ∙ sym (right O .uses))
             ∙ sym (ap (λ (s : Working). s .uses) keeping-is ∙ unfold keeping in refl) ∙ next O .uses;
-        flags = ap (λ (n : ℕ). flagsIn n (lay (flagsAt + length rows) (1 ∷ []) pair)) (longer O)
-            ∙ flags-more (length rows) 1 pair (O .more) (omega (arith, pair-long, O .holds .room))
-            ∙ ap (λ (fs : List ℕ). fs ++ (1 ∷ [])) (flags-stay (usesAt + 2 * rank rows) (bytes 2 0) head pair-room (length rows) pair-below
-            ∙ flags-above (headAt (p O .place)) (headOf (p O .place) (bytes vectorBytes x)) slot head-room (length rows) (O .holds .many) behind
-            ∙ flags-stay (p O .place * vectorBytes) (bytes vectorBytes x) state slot-room (length rows) (omega (arith, slot-below, sizes)) ∙ O .holds .flags)
-            ∙ sym (ap (map flagOf) flagged ∙ map-append flagOf (kept rows) (true ∷ []));
+        places = ap (λ (n : ℕ). numbers 2 n (drop placesAt (lay (p O .place * vectorBytes) (bytes vectorBytes x) headed))) (longer O)
+            ∙ pairs-behind (p O .place * vectorBytes) (bytes vectorBytes x) headed slot-fits placesAt (suc (length rows)) (omega (arith, slot-below, sizes))
+            ∙ pairs-before (headAt (p O .place)) (headOf (p O .place) vector) unused headed-fits placesAt (suc (length rows)) (omega (arith, behind, sizes, O .more))
+            ∙ pairs-behind (usesAt + 2 * rank rows) (bytes 2 0) given unused-fits placesAt (suc (length rows)) unused-below
+            ∙ pairs-more placesAt (length rows) (rank rows + 1) state (omega (arith, place-left, sizes)) (omega (arith, sizes, O .more, O .holds .room))
+            ∙ ap (λ (ps : List ℕ). ps ++ ((rank rows + 1) ∷ [])) (O .holds .places) ∙ sym placed;
       }

@@ -11,5 +11,5 @@ pub mod Holding
 pub mod Turning
 pub mod Emptied
 pub mod EmptyHolds
-pub mod Eliminated
+pub mod EachHolds
 pub mod Settled

@@ -5,26 +5,30 @@ use mathlib.Core.Bool.{true, false, not}
 use mathlib.Core.List.{List, [], _∷_, _++_, map}
 use Prim.Native.Nat.{ℕ, _+_, _*_, _≤_, _<_}
 use native.Mathlib.Omega.{arith}
-use lib.ListN.{length, getD, length-map}
+use lib.Dec.{lit<}
+use lib.ListN.{length, getD, drop, length-map}
 use Rattle.space.specs.Space.{spans, setOf}
 use Rattle.space.specs.Lists.{Below, select}
-use Rattle.space.proofs.Lists.{map-append, length-select, marked-le, count-le, tabulate-below}
-use Rattle.octets.specs.Octets.{flat, lay}
+use Rattle.space.proofs.Lists.{length-select, marked-le, count-le, tabulate-below}
+use Rattle.octets.specs.Octets.{bytes, numbers, flat, lay}
+use Rattle.octets.proofs.Numbers.{length-bytes}
 use Rattle.octets.proofs.Runs.{length-flat}
 use Rattle.octets.proofs.Lay.{length-lay}
+use Rattle.places.specs.Places.{placesOf}
+use Rattle.places.proofs.OneMore.{places-snoc}
 use Rattle.reading.specs.Reading.{kept, keptRows, otherRows, rank, usesOf, uses}
 use Rattle.reading.proofs.Kept.{length-kept}
 use Rattle.reading.proofs.OneMore.{kept-snoc}
 use Rattle.reading.specs.Raised.{raised}
 use Rattle.reading.proofs.Pick.{length-uses}
 use Rattle.basis.specs.Algorithm2.{digits, Pass, Working, counting, step}
-use Rattle.echelon.specs.State.{tailDigits, usesAt, flagsAt, usesIn, flagsIn, countedState}
-use Rattle.echelon.specs.Holds.{Holds, flagOf}
+use Rattle.echelon.specs.State.{tailDigits, usesAt, placesAt, usesIn, placesIn, countedState}
+use Rattle.echelon.specs.Holds.{Holds}
 use Rattle.basis.proofs.Model.{step-other}
 use Rattle.echelon.proofs.Places.{sizes}
 use Rattle.echelon.proofs.Offers.{Offer, key, before, p, narrow, wide, right, all-below, next, pass-is, ranked, fits, longer, slots-next}
 use Rattle.reading.proofs.Ranks.{rank-other}
-use Rattle.echelon.proofs.Written.{slots-stay, uses-above, flags-stay, flags-more, uses-anew}
+use Rattle.echelon.proofs.Written.{slots-stay, pairs-before, pairs-behind, pairs-more, uses-anew}
 
 -- no row is used more often than there are rows
 pub uses-most : (m : ℕ) (rows : List ℕ) → length rows < m → Below m (uses rows)
@@ -70,29 +74,29 @@ module _ {l : ℕ} {rows : List ℕ} {row : ℕ} {state : List ℕ} (O : Offer l
   laid-long : length laid ≡ length state
   laid-long = length-lay usesAt (flat 2 us) state room
 
-  flag-room : flagsAt + length rows + 1 ≤ length laid
-  flag-room = omega (arith, laid-long, sizes, O .holds .room, O .more)
+  none-fits : placesAt + 2 * length rows + length (bytes 2 0) ≤ length laid
+  none-fits = omega (arith, length-bytes 2 0, laid-long, sizes, O .holds .room, O .more)
 
-  flagged : kept (rows ++ (row ∷ [])) ≡ kept rows ++ (false ∷ [])
-  flagged = kept-snoc rows row ∙ rw e
+  placed : placesOf (kept (rows ++ (row ∷ []))) ≡ placesOf (kept rows) ++ (0 ∷ [])
+  placed = ap placesOf (kept-snoc rows row ∙ rw e) ∙ places-snoc 0 (kept rows) false
 
   pub other-holds : Holds l (rows ++ (row ∷ [])) (countedState (p O .vector) (length rows) (rank rows) state)
-  unfolding countedState
+  unfolding countedState usesIn placesIn
   other-holds =
       record {
         some = O .holds .some;
         most = O .holds .most;
-        room = omega (arith, O .holds .room, laid-long, length-lay (flagsAt + length rows) (0 ∷ []) laid flag-room);
+        room = omega (arith, O .holds .room, laid-long, length-lay (placesAt + 2 * length rows) (bytes 2 0) laid none-fits);
         many = omega (arith, longer O, O .more);
         below = all-below O;
-        slots = slots-stay (flagsAt + length rows) (0 ∷ []) laid flag-room (key O) (narrow O) (omega (arith, sizes))
+        slots = slots-stay (placesAt + 2 * length rows) (bytes 2 0) laid none-fits (key O) (narrow O) (omega (arith, sizes))
             ∙ slots-stay usesAt (flat 2 us) state room (key O) (narrow O) (omega arith) ∙ O .holds .slots
             ∙ sym (slots-next O ∙ ap (λ (s : Working). s .slots) counting-is ∙ unfold counting in refl);
-        uses = ap (λ (n : ℕ). usesIn n (lay (flagsAt + length rows) (0 ∷ []) laid)) same-rank
-            ∙ uses-above (flagsAt + length rows) (0 ∷ []) laid flag-room (rank rows) (fits O .place) (omega arith)
+        uses = ap (λ (n : ℕ). numbers 2 n (drop usesAt (lay (placesAt + 2 * length rows) (bytes 2 0) laid))) same-rank
+            ∙ pairs-before (placesAt + 2 * length rows) (bytes 2 0) laid none-fits usesAt (rank rows) (omega (arith, sizes, fits O .place))
             ∙ uses-anew (rank rows) us state long (rw uses-are (uses-most 65536 (rows ++ (row ∷ [])) (omega (arith, longer O, O .more)))) (fits O .place) (O .holds .room) ∙ uses-are;
-        flags = ap (λ (n : ℕ). flagsIn n (lay (flagsAt + length rows) (0 ∷ []) laid)) (longer O)
-            ∙ flags-more (length rows) 0 laid (O .more) (omega (arith, laid-long, O .holds .room))
-            ∙ ap (λ (fs : List ℕ). fs ++ (0 ∷ [])) (flags-stay usesAt (flat 2 us) state room (length rows) (omega (arith, size, sizes, fits O .place)) ∙ O .holds .flags)
-            ∙ sym (ap (map flagOf) flagged ∙ map-append flagOf (kept rows) (false ∷ []));
+        places = ap (λ (n : ℕ). numbers 2 n (drop placesAt (lay (placesAt + 2 * length rows) (bytes 2 0) laid))) (longer O)
+            ∙ pairs-more placesAt (length rows) 0 laid (lit< tt) (omega (arith, laid-long, sizes, O .more, O .holds .room))
+            ∙ ap (λ (ps : List ℕ). ps ++ (0 ∷ [])) (pairs-behind usesAt (flat 2 us) state room placesAt (length rows) (omega (arith, size, sizes, fits O .place)) ∙ O .holds .places)
+            ∙ sym placed;
       }

@@ -13,7 +13,7 @@ use Rattle.octets.proofs.Runs.{length-numbers, getD-numbers}
 use Rattle.echelon.specs.declared.Absorbed.{Absorbed}
 use Rattle.echelon.specs.declared.Absorbed.the-variants.{Kept, Other, Misfit}
 use Rattle.echelon.specs.State.{absorption}
-use Rattle.echelon.specs.Eliminating.{Elimination, rankAfter, absorbed, absorbEach}
+use Rattle.echelon.specs.Eliminating.{Elimination, rankAfter, oneMore, absorbEach}
 use Rattle.octets.proofs.Views.{part-room}
 
 -- the rows of a list, m of them
@@ -46,7 +46,7 @@ module _ (key : ℕ) (list : List ℕ) (whole : Elimination) (state : List ℕ) 
     -- one row more
     pub turning-more : (next : List ℕ) (n : ℕ) → next ≡ absorption key (number row) i r state .state → n ≡ rankAfter (absorption key (number row) i r state .answer) r
         → Turning key list whole next n (i + 1)
-    unfolding absorbEach absorbed
+    unfolding absorbEach oneMore
     turning-more next n e f =
         record {
           within = omega arith;
@@ -55,10 +55,10 @@ module _ (key : ℕ) (list : List ℕ) (whole : Elimination) (state : List ℕ) 
         }
       where
         split : absorbEach key i (drop i (rowsIn key list)) (record { state = state; rank = r })
-            ≡ absorbEach key (suc i) (drop (suc i) (rowsIn key list)) (absorbed key i (number row) (record { state = state; rank = r }))
+            ≡ absorbEach key (suc i) (drop (suc i) (rowsIn key list)) (oneMore key i (number row) (record { state = state; rank = r }))
         split =
             ap (λ (xs : List ℕ). absorbEach key i xs (record { state = state; rank = r })) (drop-cons (rowsIn key list) i 0 (omega (arith, length-numbers key (length list / key) list)))
-            ∙ ap (λ (x : ℕ). absorbEach key (suc i) (drop (suc i) (rowsIn key list)) (absorbed key i x (record { state = state; rank = r }))) (getD-numbers key (length list / key) list i h)
+            ∙ ap (λ (x : ℕ). absorbEach key (suc i) (drop (suc i) (rowsIn key list)) (oneMore key i x (record { state = state; rank = r }))) (getD-numbers key (length list / key) list i h)
 
   pub turning-end : length list / key ≤ i → (r ≡ whole .rank) × (state ≡ whole .state)
   unfolding absorbEach

@@ -1,22 +1,21 @@
--- How the slots, uses and flags of a state change with a row that is kept, or counted.
+-- How the slots, the uses and the kept places of a state change with a row that is kept, or counted.
 -- Assumes nothing.
 use mathlib.Core.Path.{_≡_, sym, ap, _∙_}
 use mathlib.Core.List.{List, [], _∷_, _++_}
 use Prim.Native.Nat.{ℕ, suc, _+_, _-_, _*_, _^_, _≤_, _<_}
 use native.Mathlib.Nat.{mul-comm, le-refl, add-zero}
 use native.Mathlib.Omega.{arith}
-use lib.Dec.{lit<}
-use lib.ListN.{length, take, drop, set, length-drop}
+use lib.ListN.{length, drop, set, length-drop}
 use Rattle.space.specs.Lists.{Below}
 use Rattle.octets.specs.Octets.{bytes, numbers, flat, over, lay}
 use Rattle.octets.proofs.Numbers.{length-bytes, number-bytes}
-use Rattle.octets.proofs.Lay.{lay-zero, drop-after, part-before}
+use Rattle.octets.proofs.Lay.{lay-zero, drop-after}
 use Rattle.octets.proofs.Runs.{length-flat, numbers-flat, take-over}
 use Rattle.slots.specs.Reducing.{slotsOf}
-use Rattle.echelon.specs.State.{mostKept, vectorBytes, usesAt, flagsAt, headsAt, stateBytes, slotsIn, usesIn, flagsIn}
+use Rattle.echelon.specs.State.{mostKept, vectorBytes, usesAt, stateBytes, slotsIn, usesIn}
 use Rattle.echelon.proofs.Places.{sizes, slots-end}
 use Rattle.octets.proofs.Views.{numbers-take}
-use Rattle.octets.proofs.Laid.{drop-lay, numbers-before, numbers-lay, numbers-more, take-more}
+use Rattle.octets.proofs.Laid.{drop-lay, numbers-before, numbers-lay, numbers-more}
 
 -- ---- what lies elsewhere stays
 
@@ -25,45 +24,31 @@ module _ (at : ℕ) (new state : List ℕ) (fits : at + length new ≤ length st
   unfolding slotsIn slotsOf
   slots-stay key h l = numbers-before vectorBytes (8 * key) at new state (omega (arith, slots-end key h)) (omega arith)
 
-  pub uses-below : (r : ℕ) → at + length new ≤ usesAt → usesIn r (lay at new state) ≡ usesIn r state
-  unfolding usesIn
-  uses-below r h = ap (numbers 2 r) (drop-after usesAt at new state h (omega arith))
+  -- numbers of two bytes from a base on, before and behind what is laid
+  pub pairs-before : (base r : ℕ) → base + 2 * r ≤ at → numbers 2 r (drop base (lay at new state)) ≡ numbers 2 r (drop base state)
+  pairs-before base r h =
+      let e : base + (at - base) ≡ at = omega arith in
+      ap (λ (k : ℕ). numbers 2 r (drop base (lay k new state))) (sym e) ∙ ap (numbers 2 r) (drop-lay base (at - base) new state (omega arith))
+      ∙ numbers-before 2 r (at - base) new (drop base state) (omega arith) (omega (arith, length-drop base state))
 
-  pub uses-above : (r : ℕ) → r ≤ mostKept → flagsAt ≤ at → usesIn r (lay at new state) ≡ usesIn r state
-  unfolding usesIn
-  uses-above r h l =
-      let e : usesAt + (at - usesAt) ≡ at = omega (arith, sizes) in
-      ap (λ (k : ℕ). numbers 2 r (drop usesAt (lay k new state))) (sym e) ∙ ap (numbers 2 r) (drop-lay usesAt (at - usesAt) new state (omega (arith, sizes)))
-      ∙ numbers-before 2 r (at - usesAt) new (drop usesAt state) (omega (arith, sizes)) (omega (arith, length-drop usesAt state))
+  pub pairs-behind : (base r : ℕ) → at + length new ≤ base → numbers 2 r (drop base (lay at new state)) ≡ numbers 2 r (drop base state)
+  pairs-behind base r h = ap (numbers 2 r) (drop-after base at new state h (omega arith))
 
-  pub flags-above : (m : ℕ) → m ≤ 512 → headsAt ≤ at → flagsIn m (lay at new state) ≡ flagsIn m state
-  unfolding flagsIn
-  flags-above m h l = part-before flagsAt m at new state (omega (arith, sizes)) fits
+-- one number of two bytes more
+pub pairs-more : (base r x : ℕ) (state : List ℕ) → x < 65536 → base + 2 * suc r ≤ length state
+    → numbers 2 (suc r) (drop base (lay (base + 2 * r) (bytes 2 x) state)) ≡ numbers 2 r (drop base state) ++ (x ∷ [])
+pairs-more base r x state small h =
+    ap (numbers 2 (suc r)) (drop-lay base (2 * r) (bytes 2 x) state (omega arith) ∙ ap (λ (k : ℕ). lay k (bytes 2 x) (drop base state)) (mul-comm 2 r))
+    ∙ numbers-more 2 r (bytes 2 x) (drop base state) (length-bytes 2 x) (omega (arith, length-drop base state))
+    ∙ ap (λ (y : ℕ). numbers 2 r (drop base state) ++ (y ∷ [])) (number-bytes 2 x small)
 
-  pub flags-stay : (m : ℕ) → at + length new ≤ flagsAt → flagsIn m (lay at new state) ≡ flagsIn m state
-  unfolding flagsIn
-  flags-stay m h = ap (take m) (drop-after flagsAt at new state h (omega arith))
-
--- one flag more
-pub flags-more : (m x : ℕ) (state : List ℕ) → m < 512 → stateBytes ≤ length state → flagsIn (suc m) (lay (flagsAt + m) (x ∷ []) state) ≡ flagsIn m state ++ (x ∷ [])
-unfolding flagsIn
-flags-more m x state h l =
-    ap (take (suc m)) (drop-lay flagsAt m (x ∷ []) state (omega (arith, sizes))) ∙ take-more m x (drop flagsAt state) (omega (arith, sizes, length-drop flagsAt state))
-
--- one slot more, and one place more for uses
-module _ (key t x r : ℕ) (state : List ℕ) (h : key ≤ 40) (l : t < 8 * key) (whole : stateBytes ≤ length state) where
+-- one slot more
+module _ (key t x : ℕ) (state : List ℕ) (h : key ≤ 40) (l : t < 8 * key) (whole : stateBytes ≤ length state) where
   pub slots-more : x < 2 ^ (8 * vectorBytes) → slotsIn key (lay (t * vectorBytes) (bytes vectorBytes x) state) ≡ set (slotsIn key state) t x
   unfolding slotsIn slotsOf
   slots-more small =
       numbers-lay vectorBytes (8 * key) t (bytes vectorBytes x) state (length-bytes vectorBytes x) l (omega (arith, sizes, slots-end key h))
       ∙ ap (set (numbers vectorBytes (8 * key) state) t) (number-bytes vectorBytes x small)
-
-pub uses-more : (r : ℕ) (state : List ℕ) → r < mostKept → stateBytes ≤ length state → usesIn (suc r) (lay (usesAt + 2 * r) (bytes 2 0) state) ≡ usesIn r state ++ (0 ∷ [])
-unfolding usesIn
-uses-more r state h l =
-    ap (numbers 2 (suc r)) (drop-lay usesAt (2 * r) (bytes 2 0) state (omega (arith, sizes)) ∙ ap (λ (k : ℕ). lay k (bytes 2 0) (drop usesAt state)) (mul-comm 2 r))
-    ∙ numbers-more 2 r (bytes 2 0) (drop usesAt state) (length-bytes 2 0) (omega (arith, sizes, length-drop usesAt state))
-    ∙ ap (λ (x : ℕ). numbers 2 r (drop usesAt state) ++ (x ∷ [])) (number-bytes 2 0 (lit< tt))
 
 -- all uses written anew
 pub uses-anew : (r : ℕ) (us state : List ℕ) → length us ≡ r → Below 65536 us → r ≤ mostKept → stateBytes ≤ length state → usesIn r (lay usesAt (flat 2 us) state) ≡ us

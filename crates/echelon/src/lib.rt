@@ -9,30 +9,41 @@ ghost use Rattle.reading.specs.Raised.{raised};
 ghost use Rattle.basis.specs.Algorithm2.{digits};
 ghost use Rattle.echelon.specs.Eliminating.{rankAfter, absorbEach, eliminates, elimination};
 ghost use Rattle.echelon.specs.Tally.{Tallied};
-ghost use Rattle.echelon.specs.State.{mostKept, vectorBytes, stateBytes, headAt, headOf, KeepRoom, passIn, keptState, countedState, taken, takes, absorption};
+ghost use Rattle.places.specs.Places.{mostRows};
+ghost use Rattle.echelon.specs.State.{mostKept, vectorBytes, stateBytes, headAt, headOf, KeepRoom, passIn, placedState, keptState, countedState, taken, takes, absorption};
+use places::Arrival;
+use places::KeptPlace;
 use slots::Reduced;
 
-// The place of a kept row among the kept rows, from 0. Only keeping a row relates it to an arrival.
-pub struct KeptPlace(pub usize);
+// A vector: a row and its tail.
+const VECTOR: usize = 80;
 
-// What became of a row.
+// A row of 40 bytes has 320 digits, so there are no more slots, and no more rows are kept.
+const MOST_KEPT: usize = 320;
+
+// The state: from 0 on the slots; where the uses, the kept places and the heads begin; where it ends.
+pub const USES: usize = 25600;
+
+pub const PLACES: usize = 26240;
+
+const HEADS: usize = 27264;
+
+pub const STATE: usize = 29824;
+
+// What became of a row; Misfit is for arguments that do not fit.
 pub enum Absorbed {
     Kept,
     Other,
     Misfit,
 }
 
-// Turns the digit worth 2^j of v.
-fn flip(v: &mut [u8], j: usize)
-    requires { ⌜ j < 8 * length (now v) ⌝ }
-    ensures { λ _. ⌜ now (v .exit) ≡ bytes (length (now (v .entry))) (number (now (v .entry)) ⊕ 2 ^ j) ⌝ }
-{
-    let n = v.len();
-    let i = n - 1 - j / 8;
-    v[i] = v[i] ^ (1u8 << (j % 8));
+// What came of eliminating a list: how many rows were kept.
+pub enum Eliminated {
+    Rank(usize),
+    Misfit,
 }
 
-// One more for the number at place j, of two bytes.
+// One use more for the kept place that the digit worth 2^j of a tail names.
 fn raise(uses: &mut [u8], j: usize)
     requires { ⌜ 2 * j + 2 ≤ length (now uses) ⌝ }
     ensures { λ _. ⌜ now (uses .exit) ≡ lay (2 * j) (bytes 2 (number (take 2 (drop (2 * j) (now (uses .entry)))) + 1)) (now (uses .entry)) ⌝ }
@@ -78,7 +89,7 @@ fn attempt(work: &mut [u8], row: &[u8], state: &[u8]) -> usize
 {
     let key = row.len();
     octets::copy(work, row);
-    match slots::reduce(work, state, &state[26752..29312], key) {
+    match slots::reduce(work, state, &state[HEADS..STATE], key) {
         Reduced::Stopped(t) => t,
         Reduced::Spent => 8 * key,
         Reduced::Misfit => 8 * key,
@@ -87,77 +98,79 @@ fn attempt(work: &mut [u8], row: &[u8], state: &[u8]) -> usize
 
 // Repeats the eight bytes of a vector in which place t stands, where reducing looks for them.
 fn put_head(state: &mut [u8], vector: &[u8], t: usize)
-    requires { ⌜ (t < 320) × (stateBytes ≤ length (now state)) ⌝ }
+    requires { ⌜ (t < mostKept) × (stateBytes ≤ length (now state)) ⌝ }
     ensures { λ _. ⌜ now (state .exit) ≡ lay (headAt t) (headOf t (now (vector .entry))) (now (state .entry)) ⌝ }
 {
-    let h = 26752 + 512 * (t / 64) + 8 * (63 - t % 64);
+    let h = HEADS + 512 * (t / 64) + 8 * (63 - t % 64);
     let e = h + 8;
     words::put_little(&mut state[h..e], words::word(vector, 8 * (t / 64)));
 }
 
-// Keeps the vector at slot t. This is where an arrival gets a kept place.
-fn keep(state: &mut [u8], work: &mut [u8], t: usize, arrival: rows::Arrival, place: KeptPlace)
-    requires { ⌜ KeepRoom t (arrival .0) (place .0) (length (now state)) × (length (now work) ≡ vectorBytes) ⌝ }
-    ensures { λ _. ⌜ now (state .exit) ≡ keptState t (number (now (work .entry))) (arrival .0) (place .0) (now (state .entry)) ⌝ }
+// The vector, and in its tail the digit that names its own place, to slot t.
+fn put_vector(state: &mut [u8], vector: &[u8], t: usize, place: KeptPlace)
+    requires { ⌜ (t < mostKept) × (place .0 < mostKept) × (stateBytes ≤ length (now state)) × (length (now vector) ≡ vectorBytes) ⌝ }
+    ensures { λ _. ⌜ now (state .exit) ≡ lay (t * vectorBytes) (bytes vectorBytes (number (now (vector .entry)) ⊕ 2 ^ (place .0))) (now (state .entry)) ⌝ }
 {
-    let m = arrival.0;
-    let r = place.0;
-    let at = t * 80;
-    let e = at + 80;
-    let a = 25600 + 2 * r;
-    let b = a + 1;
-    let f = 26240 + m;
-    flip(work, r);
-    octets::copy(&mut state[at..e], work);
-    put_head(state, work, t);
-    state[a] = 0;
-    state[b] = 0;
-    state[f] = 1;
+    let at = t * VECTOR;
+    let e = at + VECTOR;
+    octets::copy(&mut state[at..e], &vector[..VECTOR]);
+    places::name(&mut state[at..e], place);
 }
 
-// Counts a use of each kept place before this one that the tail names, and notes the arrival as not kept.
-fn count(state: &mut [u8], tail: &[u8], arrival: rows::Arrival, place: KeptPlace)
-    requires { ⌜ (length (now tail) ≡ 40) × (arrival .0 < 512) × (place .0 ≤ mostKept) × (stateBytes ≤ length (now state)) ⌝ }
-    ensures { λ _. ⌜ now (state .exit) ≡ countedState (number (now (tail .entry))) (arrival .0) (place .0) (now (state .entry)) ⌝ }
+// This is where an arrival gets a kept place: the next one, with no uses yet.
+fn give_place(state: &mut [u8], arrival: Arrival, rank: usize) -> KeptPlace
+    requires { ⌜ (arrival .0 < mostRows) × (rank < mostKept) × (stateBytes ≤ length (now state)) ⌝ }
+    ensures place { λ r. ⌜ r .0 ≡ rank ⌝ }
+    ensures state { λ _. ⌜ now (state .exit) ≡ placedState (arrival .0) rank (now (state .entry)) ⌝ }
 {
-    let m = arrival.0;
-    let r = place.0;
-    let e = 25600 + 2 * r;
-    let f = 26240 + m;
-    tally(&mut state[25600..e], tail, r);
-    state[f] = 0;
+    let place = places::give(&mut state[PLACES..HEADS], arrival, rank);
+    places::no_uses(&mut state[USES..PLACES], place);
+    place
+}
+
+// Keeps the row of an arrival, whose vector stopped at slot t.
+fn keep(state: &mut [u8], vector: &[u8], t: usize, arrival: Arrival, rank: usize)
+    requires { ⌜ KeepRoom t (arrival .0) rank (length (now state)) × (length (now vector) ≡ vectorBytes) ⌝ }
+    ensures { λ _. ⌜ now (state .exit) ≡ keptState t (now (vector .entry)) (arrival .0) rank (now (state .entry)) ⌝ }
+{
+    let place = give_place(state, arrival, rank);
+    put_head(state, vector, t);
+    put_vector(state, vector, t, place);
+}
+
+// Counts a use of each of the rows kept so far that the tail names, and gives the arrival no kept place.
+fn count(state: &mut [u8], tail: &[u8], arrival: Arrival, rank: usize)
+    requires { ⌜ (length (now tail) ≡ 40) × (arrival .0 < mostRows) × (rank ≤ mostKept) × (stateBytes ≤ length (now state)) ⌝ }
+    ensures { λ _. ⌜ now (state .exit) ≡ countedState (number (now (tail .entry))) (arrival .0) rank (now (state .entry)) ⌝ }
+{
+    let e = USES + 2 * rank;
+    tally(&mut state[USES..e], tail, rank);
+    places::give_none(&mut state[PLACES..HEADS], arrival);
 }
 
 // Takes one row in, with work for its vector.
-fn take_in(
-    state: &mut [u8],
-    work: &mut [u8],
-    row: &[u8],
-    arrival: rows::Arrival,
-    place: KeptPlace,
-) -> Absorbed
-    requires { ⌜ (now work ≡ replicate vectorBytes 0) × (takes (length (now row)) (arrival .0) (place .0) (length (now state)) ≡ true) ⌝ }
-    ensures answer { λ a. ⌜ a ≡ taken (length (now (row .entry))) (passIn (length (now (row .entry))) (number (now (row .entry))) (now (state .entry))) (arrival .0) (place .0) (now (state .entry)) .answer ⌝ }
-    ensures state { λ a. ⌜ now (state .exit) ≡ taken (length (now (row .entry))) (passIn (length (now (row .entry))) (number (now (row .entry))) (now (state .entry))) (arrival .0) (place .0) (now (state .entry)) .state ⌝ }
+fn take_in(state: &mut [u8], work: &mut [u8], row: &[u8], arrival: Arrival, rank: usize) -> Absorbed
+    requires { ⌜ (now work ≡ replicate vectorBytes 0) × (takes (length (now row)) (arrival .0) rank (length (now state)) ≡ true) ⌝ }
+    ensures answer { λ a. ⌜ a ≡ taken (length (now (row .entry))) (passIn (length (now (row .entry))) (number (now (row .entry))) (now (state .entry))) (arrival .0) rank (now (state .entry)) .answer ⌝ }
+    ensures state { λ a. ⌜ now (state .exit) ≡ taken (length (now (row .entry))) (passIn (length (now (row .entry))) (number (now (row .entry))) (now (state .entry))) (arrival .0) rank (now (state .entry)) .state ⌝ }
 {
     let key = row.len();
-    let r = place.0;
     let t = attempt(work, row, state);
     if 8 * key <= t {
-        count(state, &work[40..80], arrival, place);
+        count(state, &work[40..VECTOR], arrival, rank);
         return Absorbed::Other;
     }
-    if r < 320 {
-        keep(state, work, t, arrival, place);
+    if rank < MOST_KEPT {
+        keep(state, work, t, arrival, rank);
         Absorbed::Kept
     } else {
         Absorbed::Misfit
     }
 }
 
-// Whether a row of so many bytes, as arrival m with r rows kept before, fits a state of so many bytes.
-fn taking(key: usize, m: usize, r: usize, room: usize) -> bool
-    ensures { λ a. ⌜ a ≡ takes key m r room ⌝ }
+// Whether a row of so many bytes, at this arrival with so many rows kept before, fits a state of so many bytes.
+fn taking(key: usize, arrival: Arrival, rank: usize, room: usize) -> bool
+    ensures { λ a. ⌜ a ≡ takes key (arrival .0) rank room ⌝ }
 {
     if key < 9 {
         return false;
@@ -165,24 +178,24 @@ fn taking(key: usize, m: usize, r: usize, room: usize) -> bool
     if 40 < key {
         return false;
     }
-    if 512 <= m {
+    if places::MOST_ROWS <= arrival.0 {
         return false;
     }
-    if 320 < r {
+    if MOST_KEPT < rank {
         return false;
     }
-    29312 <= room
+    STATE <= room
 }
 
-// One row more: keeps it at the place given, or counts the uses that it makes of the rows kept before.
-pub fn absorb(state: &mut [u8], row: &[u8], arrival: rows::Arrival, place: KeptPlace) -> Absorbed
-    ensures answer { λ a. ⌜ a ≡ absorption (length (now (row .entry))) (number (now (row .entry))) (arrival .0) (place .0) (now (state .entry)) .answer ⌝ }
-    ensures state { λ a. ⌜ now (state .exit) ≡ absorption (length (now (row .entry))) (number (now (row .entry))) (arrival .0) (place .0) (now (state .entry)) .state ⌝ }
+// One row more, after so many were kept: keeps it, or counts the uses that it makes of those.
+pub fn absorb(state: &mut [u8], row: &[u8], arrival: Arrival, rank: usize) -> Absorbed
+    ensures answer { λ a. ⌜ a ≡ absorption (length (now (row .entry))) (number (now (row .entry))) (arrival .0) rank (now (state .entry)) .answer ⌝ }
+    ensures state { λ a. ⌜ now (state .exit) ≡ absorption (length (now (row .entry))) (number (now (row .entry))) (arrival .0) rank (now (state .entry)) .state ⌝ }
 {
     let key = row.len();
-    if taking(key, arrival.0, place.0, state.len()) {
-        let mut work = [0u8; 80];
-        take_in(state, &mut work, row, arrival, place)
+    if taking(key, arrival, rank, state.len()) {
+        let mut work = [0u8; VECTOR];
+        take_in(state, &mut work, row, arrival, rank)
     } else {
         Absorbed::Misfit
     }
@@ -202,23 +215,17 @@ fn ranked(a: Absorbed, r: usize) -> usize
 
 // Takes in the rows of a list, one after the other, and gives how many were kept.
 fn absorb_each(state: &mut [u8], list: &[u8], key: usize) -> usize
-    requires { ⌜ (0 < key) × (length (now list) / key ≤ 512) ⌝ }
+    requires { ⌜ (0 < key) × (key ≤ 40) × (length (now list) / key ≤ mostRows) ⌝ }
     ensures rank { λ r. ⌜ r ≡ absorbEach key 0 (numbers key (length (now (list .entry)) / key) (now (list .entry))) (record { state = now (state .entry); rank = 0 }) .rank ⌝ }
     ensures state { λ r. ⌜ now (state .exit) ≡ absorbEach key 0 (numbers key (length (now (list .entry)) / key) (now (list .entry))) (record { state = now (state .entry); rank = 0 }) .state ⌝ }
 {
-    let m = list.len() / key;
-    let mut r: usize = 0;
-    let mut i: usize = 0;
-    while i < m {
-        let a = i * key;
-        let e = a + key;
-        r = ranked(
-            absorb(state, &list[a..e], rows::Arrival(i), KeptPlace(r)),
-            r,
-        );
-        i += 1;
+    let mut rank: usize = 0;
+    for arrival in 0..list.len() / key {
+        let arrival = Arrival(arrival);
+        let absorbed = absorb(state, places::row(list, key, arrival), arrival, rank);
+        rank = ranked(absorbed, rank);
     }
-    r
+    rank
 }
 
 // Whether so many rows with payloads of l bytes fit a state of so many bytes.
@@ -231,23 +238,23 @@ fn eliminating(l: u8, m: usize, room: usize) -> bool
     if 32 < l {
         return false;
     }
-    if 512 < m {
+    if places::MOST_ROWS < m {
         return false;
     }
-    29312 <= room
+    STATE <= room
 }
 
 // Eliminates the whole rows of a list, in list order, in a state made empty first, and gives their rank.
-pub fn eliminate(state: &mut [u8], list: &[u8], l: u8) -> usize
-    ensures rank { λ r. ⌜ r ≡ elimination l (now (list .entry)) (now (state .entry)) .rank ⌝ }
+pub fn eliminate(state: &mut [u8], list: &[u8], l: u8) -> Eliminated
+    ensures answer { λ r. ⌜ r ≡ elimination l (now (list .entry)) (now (state .entry)) .answer ⌝ }
     ensures state { λ r. ⌜ now (state .exit) ≡ elimination l (now (list .entry)) (now (state .entry)) .state ⌝ }
 {
     let key = 8 + (l as usize);
     let m = list.len() / key;
     if eliminating(l, m, state.len()) {
-        octets::clear(&mut state[0..29312]);
-        absorb_each(state, list, key)
+        octets::clear(&mut state[0..STATE]);
+        Eliminated::Rank(absorb_each(state, list, key))
     } else {
-        0
+        Eliminated::Misfit
     }
 }

@@ -4,7 +4,7 @@ ghost use lib.ListN.{length};
 use crate::base::Base;
 use frame::Numbers;
 use libc::STDOUT_FILENO;
-use rows::Arrival;
+use places::Arrival;
 use rows::Made;
 
 // Three of the longest rows, and five bytes.

@@ -11,7 +11,7 @@ ghost use Rattle.frame.specs.Numbers.{payloadOf};
 ghost use Rattle.laying.specs.Laying.{placing, laid, frameRow, listAfter, toldBy};
 use draw::Drawn;
 use frame::Frame;
-use rows::Arrival;
+use places::Arrival;
 
 // The answer of laying; specs/Laying.antt gives document 01's number and place for each case.
 pub enum Laid {

@@ -7,7 +7,7 @@ ghost use Rattle.laying.specs.Laying as laying;
 ghost use Rattle.lines.specs.Taking as spec;
 use frame::Frame;
 use laying::Laid;
-use rows::Arrival;
+use places::Arrival;
 use text::Hex;
 
 // A line has at most 256 characters, so its frame at most half as many bytes.

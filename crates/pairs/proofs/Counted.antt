@@ -17,7 +17,7 @@ use Rattle.reading.specs.declared.Answer.{Answer}
 use Rattle.reading.specs.declared.Answer.the-variants as answer
 use Rattle.reading.specs.Answer.{numbersOf}
 use Rattle.reading.specs.Reading.{rank, few, tie, singular, pageOf, pickedRows}
-use Rattle.reading.specs.Outcome.{Lent, Outcome, Check, passes, refuses, wholeRows, roomy, strayFrom, checks, usesMarks, ended, solved, read, after, outcome, plain, telling}
+use Rattle.reading.specs.Outcome.{Lent, Outcome, Check, passes, refuses, wholeRows, roomy, strayFrom, checks, usesMarks, ended, solved, read, after, outcome, plain, telling, roomFor}
 use Rattle.reading.proofs.Spread.{length-marks}
 use Rattle.reading.proofs.Checks.{passed, roomy-fits, most-512}
 use Rattle.reading.proofs.Demand1.{checks-early, read-late}
@@ -35,7 +35,7 @@ min-512 m k h = go (leb m k) refl
 
 module _ (n l : ℕ) (list page roles scratch us vs : List ℕ) (size : length us ≡ min (length vs) 512) where
   checks-same : checks n l list (buffers page us roles scratch) ≡ checks n l list (buffers page vs roles scratch)
-  unfolding checks roomy
+  unfolding checks roomFor
   checks-same = go (wholeRows l list) refl
     where
       go : (b : Bool) → wholeRows l list ≡ b → cond (not (shape n l)) (refuses answer.Shape) (cond (not b) (refuses answer.List) (cond (not (roomy n l (rowCount l list) (buffers page us roles scratch))) (refuses answer.Room) (strayFrom n l 0 (rowsOf l list))))

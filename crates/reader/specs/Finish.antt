@@ -11,10 +11,17 @@ use Rattle.rows.specs.Range.{InRange}
 use Rattle.reading.specs.declared.Answer.{Answer}
 use Rattle.reading.specs.declared.Answer.the-variants as answer
 use Rattle.reading.specs.Reading.{pickedRows, pageOf, agreement, tie, singular}
-use Rattle.reading.specs.Outcome.{Lent, Outcome}
+use Rattle.reading.specs.Outcome.{Lent, Outcome, Check, passes, refuses}
 use Rattle.choose.specs.declared.Choice.{Choice}
 use Rattle.choose.specs.declared.Choice.the-variants.{Few, Tie, Picked}
 use Rattle.solve.specs.Solve.{chosen, fits}
+use Rattle.reader.specs.declared.Checked.{Checked}
+use Rattle.reader.specs.declared.Checked.the-variants.{Refused, Passed}
+
+-- What the checks say, as the code has it.
+unfoldable pub checkOf : Checked → Check
+checkOf (Refused answer) = refuses answer
+checkOf Passed = passes
 
 pub record Ending : Type 0 where
   pub answer : Answer
@@ -36,10 +43,10 @@ concluded Tie n l rows r page = ends (answer.Tie r) page
 concluded (Picked least) n l rows r page = finished n l rows r page
 
 -- What finishing asks: a list that passes, no tie, its roles, and room.
-abbrev pub picks : Choice → Type 0
-picks Few = ⊥
-picks Tie = ⊥
-picks (Picked least) = Unit {0}
+abbrev pub isPicked : Choice → Type 0
+isPicked Few = ⊥
+isPicked Tie = ⊥
+isPicked (Picked least) = Unit {0}
 
 pub record Solvable (n l : ℕ) (list roles slots page : List ℕ) : Type 0 where
   pub range : InRange n l

@@ -1,17 +1,16 @@
 -- What the reader's steps over rows that pass leave: the rank and the choice, and the marks by arrival number.
 use Prim.Native.Nat.{ℕ, _*_, _≤_}
 use mathlib.Core.Path.{_≡_}
-use mathlib.Core.Bool.{Bool}
 use mathlib.Core.List.{List}
 use lib.ListN.{length}
 use Rattle.octets.specs.Octets.{over}
 use Rattle.rows.specs.Rows.{rowBytes, rowCount, rowsOf}
 use Rattle.reading.specs.Reading.{rank, uses}
-use Rattle.reading.specs.Outcome.{usesMarks, rolesMarks, plain, telling}
+use Rattle.reading.specs.Outcome.{usesMarks, rolesMarks}
 use Rattle.echelon.specs.Holds.{Holds}
 use Rattle.choose.specs.declared.Choice.{Choice}
-use Rattle.choose.specs.declared.Choice.the-variants.{Few, Tie, Picked}
-use Rattle.choose.specs.Pick.{nonePicked, choiceOf}
+use Rattle.choose.specs.Pick.{choiceOf}
+use Rattle.choose.specs.Mark.{roleBy}
 
 -- A list of whole rows, 512 at most, with payloads of 1 to 32 bytes.
 pub record Listed (l : ℕ) (list : List ℕ) : Type 0 where
@@ -19,17 +18,6 @@ pub record Listed (l : ℕ) (list : List ℕ) : Type 0 where
   pub most : l ≤ 32
   pub whole : length list ≡ rowCount l list * rowBytes l
   pub many : rowCount l list ≤ 512
-
--- "no 2 under 5 and 6".
-unfoldable pub leastMarked : Choice → ℕ
-leastMarked Few = nonePicked
-leastMarked Tie = nonePicked
-leastMarked (Picked least) = least
-
-abbrev pub roleBy : Choice → Bool → ℕ
-roleBy Few = plain
-roleBy Tie = plain
-roleBy (Picked least) = telling
 
 -- A state holds the rows, and this is their rank and what their uses choose.
 pub record ChosenBy (n l : ℕ) (list state : List ℕ) (r : ℕ) (choice : Choice) : Type 0 where

@@ -5,13 +5,20 @@ ghost use lib.ListN.{length};
 ghost use Rattle.rows.specs.Rows.{rowCount, rowsOf};
 ghost use Rattle.reading.specs.Outcome.{checks, passes, read, outcome};
 ghost use Rattle.echelon.specs.State.{stateBytes};
-ghost use Rattle.reader.specs.Sift.{Listed, leastMarked, ChosenBy, SiftedBy};
-ghost use Rattle.reader.specs.Finish.{ends, finished, concluded, picks, Solvable, buffers, gives};
+ghost use Rattle.reader.specs.Sift.{Listed, ChosenBy, SiftedBy};
+ghost use Rattle.reader.specs.Finish.{checkOf, ends, finished, concluded, isPicked, Solvable, buffers, gives};
 use checks::Gate;
 use checks::Stray;
 use choose::Choice;
+use echelon::Eliminated;
 use reading::Answer;
 use solve::Solved;
+
+// What the checks say: the list passes, or the first answer that applies.
+enum Checked {
+    Refused(Answer),
+    Passed,
+}
 
 // The rank, and what the uses choose.
 struct Sifted {
@@ -19,26 +26,22 @@ struct Sifted {
     choice: Choice,
 }
 
-// The fewest uses of a row that is marked as picked.
-fn least_marked(choice: Choice) -> usize
-    ensures { λ r. ⌜ r ≡ leastMarked choice ⌝ }
-{
-    match choice {
-        Choice::Few => choose::NONE_PICKED,
-        Choice::Tie => choose::NONE_PICKED,
-        Choice::Picked(least) => least,
-    }
-}
-
 // Eliminates the rows of the list, and chooses among those kept.
 fn choose_rows(n: u8, l: u8, list: &[u8], state: &mut [u8]) -> Sifted
     requires { ⌜ Listed l (now list) × (stateBytes ≤ length (now state)) ⌝ }
     ensures { λ s. ⌜ ChosenBy n l (now (list .entry)) (now (state .exit)) (s .rank) (s .choice) ⌝ }
 {
-    let rank = echelon::eliminate(state, list, l);
-    let end = 25600 + 2 * rank;
-    let choice = choose::pick(n, &state[25600..end]);
-    Sifted { rank, choice }
+    match echelon::eliminate(state, list, l) {
+        Eliminated::Rank(rank) => {
+            let end = echelon::USES + 2 * rank;
+            let choice = choose::pick(n, &state[echelon::USES..end]);
+            Sifted { rank, choice }
+        }
+        Eliminated::Misfit => Sifted {
+            rank: 0,
+            choice: Choice::Few,
+        },
+    }
 }
 
 // Elimination and choice, and the marks by arrival number.
@@ -49,12 +52,12 @@ fn sift(n: u8, l: u8, list: &[u8], uses: &mut [u16], roles: &mut [u8], state: &m
     let s = choose_rows(n, l, list, state);
     let rank = s.rank;
     let choice = s.choice;
-    let counts_end = 25600 + 2 * rank;
-    let flags_end = 26240 + list.len() / (8 + l as usize);
+    let counts_end = echelon::USES + 2 * rank;
+    let places_end = echelon::PLACES + 2 * (list.len() / (8 + l as usize));
     choose::mark(
-        &state[26240..flags_end],
-        &state[25600..counts_end],
-        least_marked(choice),
+        &state[echelon::PLACES..places_end],
+        &state[echelon::USES..counts_end],
+        choice,
         uses,
         roles,
     );
@@ -97,7 +100,7 @@ fn conclude(
     slots: &mut [u8],
     page: &mut [u8],
 ) -> Answer
-    requires { ⌜ (picks choice → Solvable n l (now list) (now roles) (now slots) (now page)) ⌝ }
+    requires { ⌜ (isPicked choice → Solvable n l (now list) (now roles) (now slots) (now page)) ⌝ }
     ensures { λ a. ⌜ ends a (now (page .exit)) ≡ concluded choice n l (rowsOf l (now (list .entry))) rank (now (page .entry)) ⌝ }
 {
     match choice {
@@ -121,12 +124,53 @@ fn read_rows(
     ensures { λ a. ⌜ gives a (buffers (now (page .exit)) (now (uses .exit)) (now (roles .exit)) (now (scratch .exit)))
         ≡ read n l (rowsOf l (now (list .entry))) (buffers (now (page .entry)) (now (uses .entry)) (now (roles .entry)) (now (scratch .entry))) ⌝ }
 {
-    let sifted = sift(n, l, list, uses, roles, &mut scratch[..29312]);
+    let sifted = sift(n, l, list, uses, roles, &mut scratch[..echelon::STATE]);
     let rank = sifted.rank;
     let choice = sifted.choice;
-    let answer = conclude(choice, rank, n, l, list, roles, &mut scratch[..5632], page);
-    octets::clear(&mut scratch[..32768]);
+    let answer = conclude(
+        choice,
+        rank,
+        n,
+        l,
+        list,
+        roles,
+        &mut scratch[..solve::SLOTS],
+        page,
+    );
+    octets::clear(&mut scratch[..checks::SCRATCH]);
     answer
+}
+
+// What the checks 1 to 4 say of a list and its buffers.
+fn check_all(
+    n: u8,
+    l: u8,
+    list: &[u8],
+    page: &[u8],
+    uses: &[u16],
+    roles: &[u8],
+    scratch: &[u8],
+) -> Checked
+    ensures { λ r. ⌜ checkOf r ≡ checks n l (now (list .entry)) (buffers (now (page .entry)) (now (uses .entry)) (now (roles .entry)) (now (scratch .entry))) ⌝ }
+{
+    match checks::check(
+        n,
+        l,
+        list.len(),
+        page.len(),
+        uses.len(),
+        roles.len(),
+        scratch.len(),
+    ) {
+        Gate::Shape => return Checked::Refused(Answer::Shape),
+        Gate::List => return Checked::Refused(Answer::List),
+        Gate::Room => return Checked::Refused(Answer::Room),
+        Gate::Open => {}
+    }
+    match checks::first_stray(n, l, list) {
+        Stray::At(arrival) => Checked::Refused(Answer::Stray(arrival)),
+        Stray::Nowhere => Checked::Passed,
+    }
 }
 
 // Reads a list: document 01, "How a list is read".
@@ -142,22 +186,8 @@ pub fn read_list(
     ensures { λ a. ⌜ gives a (buffers (now (page .exit)) (now (uses .exit)) (now (roles .exit)) (now (scratch .exit)))
         ≡ outcome n l (now (list .entry)) (buffers (now (page .entry)) (now (uses .entry)) (now (roles .entry)) (now (scratch .entry))) ⌝ }
 {
-    match checks::check(
-        n,
-        l,
-        list.len(),
-        page.len(),
-        uses.len(),
-        roles.len(),
-        scratch.len(),
-    ) {
-        Gate::Shape => return Answer::Shape,
-        Gate::List => return Answer::List,
-        Gate::Room => return Answer::Room,
-        Gate::Open => {}
-    }
-    match checks::first_stray(n, l, list) {
-        Stray::At(arrival) => Answer::Stray(arrival),
-        Stray::Nowhere => read_rows(n, l, list, page, uses, roles, scratch),
+    match check_all(n, l, list, page, uses, roles, scratch) {
+        Checked::Refused(answer) => answer,
+        Checked::Passed => read_rows(n, l, list, page, uses, roles, scratch),
     }
 }

@@ -1,8 +1,8 @@
 -- What it means that a list passes the checks, and that the checks look at no payload.
 -- Assumes nothing.
 use mathlib.Core.Path.{_≡_, refl}
-use Prim.Native.Nat.{ℕ, suc, _+_, _*_, _%_, _^_, _≤_, _<_}
-use native.Mathlib.Nat.{div-add-mod'}
+use Prim.Native.Nat.{ℕ, suc, _+_, _*_, _/_, _%_, _^_, _≤_, _<_}
+use native.Mathlib.Nat.{div-add-mod', mul-mod-left, mul-div-cancel}
 use native.Mathlib.Omega.{arith}
 use mathlib.Core.Bool.{Bool, true, false, cond, not, _&&_}
 use mathlib.Core.List.{List, [], _∷_, map}
@@ -11,11 +11,13 @@ use lib.ListN.{length}
 use borrow.Author.Tests.{eqb-true, leb-true, leb-false, le-leb, lt-leb}
 use Rattle.space.specs.Lists.{Below}
 use Rattle.space.proofs.Both.{both}
+use Rattle.octets.specs.Octets.{flat}
+use Rattle.octets.proofs.Runs.{length-flat}
 use Rattle.rows.specs.Rows.{shape, rowBytes, rowCount, rowsOf, constraint}
 use Rattle.rows.specs.Shift.{shifted, shiftedList}
 use Rattle.rows.proofs.Shifts.{shifted-constraint, rowCount-shiftedList, length-shiftedList, rows-shiftedList}
 use Rattle.reading.specs.declared.Answer.{Answer}
-use Rattle.reading.specs.Outcome.{Lent, Check, passes, refuses, wholeRows, roomy, strayFrom, checks, scratchBytes, mostRows}
+use Rattle.reading.specs.Outcome.{Lent, Check, passes, refuses, wholeRows, roomy, strayFrom, checks, scratchBytes, wholeLength, roomFor}
 
 -- ---- one test after the other
 
@@ -58,7 +60,7 @@ pub record Fits (n l m : ℕ) (lent : Lent) : Type 0 where
   pub scratch : scratchBytes ≤ length (lent .scratch)
 
 pub roomy-fits : (n l m : ℕ) (lent : Lent) → roomy n l m lent ≡ true → Fits n l m lent
-unfolding roomy
+unfolding roomFor
 roomy-fits n l m lent e =
     let page : Bool = leb (n * l) (length (lent .page)) in
     let uses : Bool = leb m (length (lent .uses)) in
@@ -75,7 +77,7 @@ roomy-fits n l m lent e =
     }
 
 pub fits-roomy : (n l m : ℕ) (lent : Lent) → Fits n l m lent → roomy n l m lent ≡ true
-unfolding roomy
+unfolding roomFor
 fits-roomy n l m lent f =
     rw (le-leb (n * l) (length (lent .page)) (f .page)) (rw (le-leb m (length (lent .uses)) (f .uses))
     (rw (le-leb m (length (lent .roles)) (f .roles)) (rw (le-leb scratchBytes (length (lent .scratch)) (f .scratch)))))
@@ -98,12 +100,19 @@ none-stray n l i (r ∷ rows) b = rw (lt-leb (2 ^ n) (constraint l r) (b .0)) (n
 
 -- a list of whole rows, 512 at most
 multiple : (l : ℕ) (list : List ℕ) → wholeRows l list ≡ true → length list % rowBytes l ≡ 0
-unfolding wholeRows
-multiple l list e = eqb-true (length list % rowBytes l) 0 (both (eqb (length list % rowBytes l) 0) (leb (rowCount l list) mostRows) e .0)
+unfolding wholeLength
+multiple l list e = eqb-true (length list % rowBytes l) 0 (both (eqb (length list % rowBytes l) 0) (leb (length list / rowBytes l) 512) e .0)
 
 pub most-512 : (l : ℕ) (list : List ℕ) → wholeRows l list ≡ true → rowCount l list ≤ 512
-unfolding wholeRows mostRows
-most-512 l list e = leb-true (rowCount l list) 512 (both (eqb (length list % rowBytes l) 0) (leb (rowCount l list) mostRows) e .1)
+unfolding wholeLength rowCount
+most-512 l list e = leb-true (length list / rowBytes l) 512 (both (eqb (length list % rowBytes l) 0) (leb (length list / rowBytes l) 512) e .1)
+
+-- rows laid flat are whole
+pub flat-whole : (l : ℕ) (rows : List ℕ) → length rows ≤ 512 → wholeRows l (flat (rowBytes l) rows) ≡ true
+unfolding wholeLength
+flat-whole l rows h =
+    let wide : 0 < 8 + l = omega arith in
+    rw (length-flat (8 + l) rows) (rw (mul-mod-left (length rows) (8 + l), mul-div-cancel (length rows) wide) (le-leb (length rows) 512 h))
 
 module _ (n l : ℕ) (list : List ℕ) (lent : Lent) (p : Passed n l list lent) where
   pub inside : Below (2 ^ n) (map (constraint l) (rowsOf l list))
@@ -125,7 +134,7 @@ module _ (n l : ℕ) (q : List ℕ) (b : Below (2 ^ (8 * l)) q) where
   strayFrom-shifted i (r ∷ rows) = rw (shifted-constraint l q b r) (rw (strayFrom-shifted (suc i) rows))
 
   pub checks-shifted : (list : List ℕ) (lent : Lent) → Passed n l list lent → Below 256 list → checks n l (shiftedList l q list) lent ≡ checks n l list lent
-  unfolding checks wholeRows
+  unfolding checks wholeLength
   checks-shifted list lent p bytes =
       rw (rowCount-shiftedList l q b list (whole n l list lent p) bytes) (rw (length-shiftedList l q b list (whole n l list lent p) bytes)
       (rw (rows-shiftedList l q b list (whole n l list lent p) bytes) (rw (strayFrom-shifted 0 (rowsOf l list)))))

@@ -7,7 +7,10 @@ use Prim.Native.Nat.{ℕ, suc}
 use native.Mathlib.Numerals.{add-one}
 use lib.ListN.{length, length-append}
 use Rattle.space.specs.Space.{spans}
-use Rattle.reading.specs.Reading.{keptRows, rank}
+use Rattle.space.specs.Lists.{marked}
+use Rattle.space.proofs.Lists.{length-select}
+use Rattle.reading.specs.Reading.{kept, keptRows, rank}
+use Rattle.reading.proofs.Kept.{length-kept}
 use Rattle.reading.proofs.OneMore.{keptRows-snoc}
 
 pub rank-other : (rows : List ℕ) (row : ℕ) → spans (keptRows rows) row ≡ true → rank (rows ++ (row ∷ [])) ≡ rank rows
@@ -21,3 +24,7 @@ unfolding rank
 rank-kept rows row e =
     let more : keptRows (rows ++ (row ∷ [])) ≡ keptRows rows ++ (row ∷ []) = keptRows-snoc rows row ∙ rw e in
     ap length more ∙ length-append (keptRows rows) (row ∷ []) ∙ add-one (length (keptRows rows))
+
+pub rank-marked : (rows : List ℕ) → rank rows ≡ marked (kept rows)
+unfolding rank keptRows
+rank-marked rows = length-select (kept rows) rows (length-kept rows)

@@ -14,7 +14,7 @@ use Rattle.rows.specs.Rows.{shape, rowCount, rowsOf, constraint, payload, named
 use Rattle.rows.proofs.Lists.{rowCount-flat}
 use Rattle.reading.specs.Answer.{numbersOf}
 use Rattle.reading.specs.Reading.{keptAfter, kept, keptRows, otherRows, rank, usesOf, uses, picks, picked, pickedRows, symbol, pageOf, agreement, few, tie, singular}
-use Rattle.reading.specs.Outcome.{Lent, mostRows, wholeRows, roomy, strayFrom, checks, spread, usesMarks, rolesMarks, ended, solved, read, after, outcome}
+use Rattle.reading.specs.Outcome.{Lent, wholeRows, roomy, strayFrom, checks, spread, usesMarks, rolesMarks, ended, solved, read, after, outcome, wholeLength}
 use Rattle.reading.specs.Worked.{Case, cases, listOf, Seen, seen, expected}
 
 -- the list of a case has whole rows, few enough
@@ -26,7 +26,7 @@ run : Lent → Case → Seen
 run lent c = seen (after (strayFrom (c .n) 1 0 (rowsOf 1 (listOf c))) (c .n) 1 (rowsOf 1 (listOf c)) lent)
 
 all-sound : map sound cases ≡ map (λ c. true) cases
-unfolding sound shape wholeRows mostRows listOf rowCount flat bytes
+unfolding sound shape wholeLength listOf rowCount flat bytes
 all-sound = refl
 
 computed : (lent : Lent) → map (run lent) cases ≡ map (expected lent) cases

@@ -1,10 +1,11 @@
 -- The whole outcome of a reading: its answer, and every lent buffer at exit. Document 01, "Answer numbers of a reading".
-use Prim.Native.Nat.{ℕ, suc, _*_, _%_, _^_}
+use Prim.Native.Nat.{ℕ, suc, _*_, _/_, _%_, _^_}
 use mathlib.Core.Bool.{Bool, true, false, cond, not, _&&_}
 use mathlib.Core.List.{List, [], _∷_, map}
 use lib.Dec.{eqb, leb}
 use lib.ListN.{length, replicate}
 use Rattle.octets.specs.Octets.{flat, over}
+use Rattle.places.specs.Places.{mostRows}
 use Rattle.rows.specs.Rows.{shape, rowBytes, rowCount, rowsOf, constraint}
 use Rattle.reading.specs.declared.Answer.{Answer}
 use Rattle.reading.specs.declared.Answer.the-variants as answer
@@ -23,9 +24,7 @@ pub record Outcome : Type 0 where
   pub answer : Answer
   pub lent : Lent
 
-unfoldable pub mostRows : ℕ
-mostRows = 512
-
+-- "scratch (at least 32,768 bytes)".
 unfoldable pub scratchBytes : ℕ
 scratchBytes = 32768
 
@@ -36,15 +35,20 @@ pub data Check : Type 0 where
   passes : Check
   refuses : Answer → Check
 
--- "2 list: length no multiple of 8+L, or over 512 rows".
-unfoldable pub wholeRows : ℕ → List ℕ → Bool
-wholeRows l list = eqb (length list % rowBytes l) 0 && leb (rowCount l list) mostRows
+-- "2 list: length no multiple of 8+L, or over 512 rows", of a list of so many bytes.
+unfoldable pub wholeLength : ℕ → ℕ → Bool
+wholeLength l size = eqb (size % rowBytes l) 0 && leb (size / rowBytes l) mostRows
+
+abbrev pub wholeRows : ℕ → List ℕ → Bool
+wholeRows l list = wholeLength l (length list)
 
 -- "the page room (at least nL bytes), uses (at least m 16-bit numbers for m rows), roles (at least m bytes), scratch (at least
--- 32,768 bytes)".
-unfoldable pub roomy : ℕ → ℕ → ℕ → Lent → Bool
-roomy n l m lent =
-    (leb (n * l) (length (lent .page)) && leb m (length (lent .uses))) && (leb m (length (lent .roles)) && leb scratchBytes (length (lent .scratch)))
+-- 32,768 bytes)", of the page's bytes, the rows, and the lengths of the four.
+unfoldable pub roomFor : ℕ → ℕ → ℕ → ℕ → ℕ → ℕ → Bool
+roomFor bytes m page uses roles scratch = (leb bytes page && leb m uses) && (leb m roles && leb scratchBytes scratch)
+
+abbrev pub roomy : ℕ → ℕ → ℕ → Lent → Bool
+roomy n l m lent = roomFor (n * l) m (length (lent .page)) (length (lent .uses)) (length (lent .roles)) (length (lent .scratch))
 
 -- "4 stray: a constraint bit worth 2^n or more; .. first such arrival number", from arrival number i on.
 unfoldable pub strayFrom : ℕ → ℕ → ℕ → List ℕ → Check

@@ -8,7 +8,7 @@ pub enum Answer {
     Shape,
     List,
     Room,
-    Stray(rows::Arrival),
+    Stray(places::Arrival),
     Few { rank: usize },
     Tie { rank: usize },
     Singular { rank: usize },

@@ -6,9 +6,6 @@ ghost use Rattle.octets.specs.Octets.{bytes, xorBytes};
 ghost use Rattle.rows.specs.Rows.{shape, named};
 ghost use Rattle.rows.specs.Make.{makeAnswer, makeRoom, stray, cut};
 
-// The place of a row in a list, from 0. A kept place is another type, so that one can't be taken for the other.
-pub struct Arrival(pub usize);
-
 // The answer of making; specs/Make.antt gives document 01's number and place for each case.
 pub enum Made {
     Row,

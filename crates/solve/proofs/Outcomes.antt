@@ -1,11 +1,11 @@
 -- What fits, and the outcome of `solve` either way: the answer, the slots and the page, from what the private steps gave.
 -- Assumes nothing.
 use mathlib.Core.Path.{_≡_, refl, sym, ap, _∙_}
-use Prim.Native.Nat.{ℕ, _+_, _*_, _/_, _≤_}
+use Prim.Native.Nat.{ℕ, _+_, _*_, _/_, _%_, _≤_}
 use native.Mathlib.Omega.{arith}
 use mathlib.Core.Bool.{Bool, true, false, not}
 use mathlib.Core.List.{List, _++_}
-use lib.Dec.{leb}
+use lib.Dec.{eqb, leb}
 use lib.ListN.{length, take, drop, replicate, length-append, length-replicate}
 use lib.Seq.{take-at, drop-at, length-take-le}
 use borrow.Author.Tests.{leb-true, not-true, not-false}
@@ -13,7 +13,8 @@ use Rattle.octets.specs.Octets.{over}
 use Rattle.octets.proofs.Lay.{over-back}
 use Rattle.space.proofs.Both.{both}
 use Rattle.rows.specs.Rows.{shape, rowCount}
-use Rattle.reading.specs.Outcome.{wholeRows}
+use Rattle.places.specs.Places.{mostRows}
+use Rattle.reading.specs.Outcome.{wholeRows, wholeLength}
 use Rattle.rows.specs.Range.{InRange}
 use Rattle.rows.proofs.Shape.{shape-range}
 use Rattle.solve.specs.declared.Solved.{Solved}
@@ -26,19 +27,22 @@ use Rattle.solve.specs.Parts.{Roomy, pageAfter}
 pub record Fitting (n l : ℕ) (list roles slots page : List ℕ) : Type 0 where
   pub fit : fits n l list roles slots page ≡ true
   pub range : InRange n l
+  pub many : length list / (8 + l) ≤ mostRows
   pub known : length list / (8 + l) ≤ length roles
   pub wide : slotBytes ≤ length slots
   pub room : n * l ≤ length page
 
 fits-so : (n l : ℕ) (list roles slots page : List ℕ) → fits n l list roles slots page ≡ true → Fitting n l list roles slots page
-unfolding fits rowCount
+unfolding fits wholeLength rowCount
 fits-so n l list roles slots page e =
     let a = both (shape n l) _ e in
-    let b = both (leb (length list / (8 + l)) (length roles)) _ (both (wholeRows l list) _ (a .1) .1) in
+    let w = both (wholeRows l list) _ (a .1) in
+    let b = both (leb (length list / (8 + l)) (length roles)) _ (w .1) in
     let d = both (leb slotBytes (length slots)) (leb (n * l) (length page)) (b .1) in
     record {
       fit = unfold fits rowCount in e;
       range = shape-range n l (a .0);
+      many = leb-true (length list / (8 + l)) mostRows (both (eqb (length list % (8 + l)) 0) _ (w .0) .1);
       known = leb-true (length list / (8 + l)) (length roles) (b .0);
       wide = leb-true slotBytes (length slots) (d .0);
       room = leb-true (n * l) (length page) (d .1);
@@ -65,7 +69,7 @@ module _ (n l : ℕ) (list roles slots page : List ℕ) where
     part-long = length-take-le slotBytes slots (F .wide)
 
     pub roomy : Roomy l n list roles page
-    roomy = record { known = F .known; small = F .range .n-high; room = F .room }
+    roomy = record { many = F .many; known = F .known; small = F .range .n-high; room = F .room }
 
     module _ (after : List ℕ) (same : length after ≡ length (take slotBytes slots)) where
       pub after-long : slotBytes ≤ length (after ++ drop slotBytes slots)

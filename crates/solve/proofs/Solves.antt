@@ -46,8 +46,8 @@ module _ (n l : ℕ) (slots list roles page : List ℕ) (b : Bool) (after : List
   pub written-none : b ≡ false → Written n l list roles page false page
   written-none e = let stays : false ≡ filled l list roles .all = sym e ∙ went in (stays, rw (← stays))
 
-  pub written-all : b ≡ true → (page′ : List ℕ) → page′ ≡ over (flat l (pageIn n l (slotsIn (8 + l) after))) page → Written n l list roles page true page′
+  pub written-all : b ≡ true → (page′ : List ℕ) → page′ ≡ over (flat l (pageIn n l (slotsIn (8 + l) after))) page → Written n l list roles page b page′
   written-all e page′ p =
       let all : true ≡ filled l list roles .all = sym e ∙ went in
       let left : slotsIn (8 + l) after ≡ filled l list roles .slots = ap (λ (f : Filled). f .slots) from in
-      (all, p ∙ rw (← all, left))
+      (went, p ∙ rw (← all, left))

@@ -6,6 +6,7 @@ use mathlib.Core.Bool.{Bool, cond}
 use mathlib.Core.List.{List, _++_, map}
 use lib.ListN.{length, replicate}
 use Rattle.octets.specs.Octets.{number, bytes, numbers, flat, over}
+use Rattle.places.specs.Places.{mostRows}
 use Rattle.basis.specs.Algorithm2.{Pass, pass}
 use Rattle.solve.specs.Solve.{Filled, leaves, fill, pageIn, slotBytes}
 
@@ -36,8 +37,9 @@ Fills w slots rows all after = leaves (slotsIn w after) all ≡ fill (w - 8) (sl
 abbrev pub unitOf : ℕ → ℕ → List ℕ
 unitOf w k = bytes 8 (2 ^ k) ++ replicate (w - 8) 0
 
--- There is a role for each whole row of a list, and room for n symbols.
+-- There is a role for each whole row of a list, at most 512, and room for n symbols.
 pub record Roomy (l n : ℕ) (list roles page : List ℕ) : Type 0 where
+  pub many : length list / (8 + l) ≤ mostRows
   pub known : length list / (8 + l) ≤ length roles
   pub small : n ≤ 64
   pub room : n * l ≤ length page

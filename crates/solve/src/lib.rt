@@ -3,12 +3,20 @@ ghost use mathlib.Core.Path.{_≡_};
 ghost use mathlib.Core.Bool.{true};
 ghost use mathlib.Core.List.{[], _∷_};
 ghost use Prim.Native.Nat.{_+_, _*_, _/_, _≤_, _<_};
-ghost use lib.ListN.{length, set};
+ghost use lib.ListN.{length, getD, set};
 ghost use Rattle.octets.specs.Octets.{number, bytes, numbers, flat, over};
-ghost use Rattle.reading.specs.Outcome.{wholeRows};
+ghost use Rattle.places.specs.Places.{mostRows};
 ghost use Rattle.slots.specs.Reducing.{stopOf};
 ghost use Rattle.solve.specs.Solve.{chosen, filled, symbolIn, pageIn, slotBytes, fits, solveAnswer, solvePage, solveSlots};
 ghost use Rattle.solve.specs.Parts.{Ready, wholePass, slotsIn, rowsIn, Fills, unitOf, Roomy, pageAfter};
+use places::Arrival;
+
+// The slots of solving: 64 vectors, one for each bit of a constraint, and then their heads.
+const VECTOR: usize = 80;
+
+const HEADS: usize = 5120;
+
+pub const SLOTS: usize = 5632;
 
 // What came of solving. Page and Singular are document 01's answers 0 and 7; Misfit is for arguments that do not fit.
 pub enum Solved {
@@ -24,9 +32,9 @@ fn store(slots: &mut [u8], place: usize, vector: &[u8])
     requires { ⌜ (place < 64) × (length (now slots) ≡ slotBytes) × (length (now vector) ≡ 80) ⌝ }
     ensures { λ _. ⌜ numbers 80 64 (now (slots .exit)) ≡ set (numbers 80 64 (now (slots .entry))) place (number (now (vector .entry))) ⌝ }
 {
-    let at = place * 80;
-    let end = at + 80;
-    let h = 5120 + 8 * (63 - place);
+    let at = place * VECTOR;
+    let end = at + VECTOR;
+    let h = HEADS + 8 * (63 - place);
     let i = h + 8;
     octets::copy(&mut slots[at..end], vector);
     words::put_little(&mut slots[h..i], words::word(vector, 0));
@@ -38,7 +46,7 @@ fn pass(work: &mut [u8], slots: &[u8]) -> slots::Reduced
     ensures answer { λ r. ⌜ r ≡ stopOf 64 (wholePass (now (slots .entry)) (now (work .entry))) ⌝ }
     ensures left { λ r. ⌜ now (work .exit) ≡ bytes 80 (wholePass (now (slots .entry)) (now (work .entry)) .vector) ⌝ }
 {
-    slots::reduce(work, slots, &slots[5120..], 8)
+    slots::reduce(work, slots, &slots[HEADS..], 8)
 }
 
 // A row goes into the slot where its pass stops; whether there was one. What stands behind the row in work is never read.
@@ -69,22 +77,31 @@ fn offer(slots: &mut [u8], work: &mut [u8], row: &[u8], role: u8) -> bool
     }
 }
 
+// The role at an arrival number.
+fn role_at(roles: &[u8], arrival: Arrival) -> u8
+    requires { ⌜ arrival .0 < length (now roles) ⌝ }
+    ensures { λ r. ⌜ r ≡ getD (now (roles .entry)) (arrival .0) 0 ⌝ }
+{
+    let at = arrival.0;
+    roles[at]
+}
+
 // The rows of w bytes of a list whose role is 2 go in, up to the first that does not; whether all did.
 fn enter_all(slots: &mut [u8], work: &mut [u8], list: &[u8], roles: &[u8], w: usize) -> bool
     requires { ⌜ Ready w (now work) (now slots) ⌝ }
-    requires { ⌜ length (now list) / w ≤ length (now roles) ⌝ }
+    requires { ⌜ (length (now list) / w ≤ length (now roles)) × (length (now list) / w ≤ mostRows) ⌝ }
     ensures { λ r. ⌜ Fills w (now (slots .entry)) (chosen (now (roles .entry)) (rowsIn w (now (list .entry)))) r (now (slots .exit)) ⌝ }
 {
-    let rows = list.len() / w;
-    let mut at = 0;
-    let mut arrival = 0;
-    while arrival < rows {
-        let end = at + w;
-        if !offer(slots, work, &list[at..end], roles[arrival]) {
+    for arrival in 0..list.len() / w {
+        let arrival = Arrival(arrival);
+        if !offer(
+            slots,
+            work,
+            places::row(list, w, arrival),
+            role_at(roles, arrival),
+        ) {
             return false;
         }
-        at = end;
-        arrival += 1;
     }
     true
 }
@@ -142,24 +159,14 @@ fn write_page(
     ensures answer { λ r. ⌜ r ≡ filled l (now (list .entry)) (now (roles .entry)) .all ⌝ }
     ensures page { λ _. ⌜ now (page .exit) ≡ pageAfter (filled l (now (list .entry)) (now (roles .entry))) n l (now (page .entry)) ⌝ }
 {
-    let mut work = [0u8; 80];
+    let mut work = [0u8; VECTOR];
     octets::clear(slots);
-    if !enter_all(slots, &mut work, list, roles, 8 + l) {
+    let all = enter_all(slots, &mut work, list, roles, 8 + l);
+    if !all {
         return false;
     }
     symbols(page, &mut work, slots, n, l);
-    true
-}
-
-// Whether a list has whole rows, at most 512.
-fn whole(l: u8, list: &[u8]) -> bool
-    ensures { λ r. ⌜ r ≡ wholeRows l (now (list .entry)) ⌝ }
-{
-    let w = 8 + (l as usize);
-    if list.len() % w != 0 {
-        return false;
-    }
-    list.len() / w <= 512
+    all
 }
 
 // Whether the shape is in range, the list has whole rows, and each buffer is long enough.
@@ -169,7 +176,7 @@ fn fitting(n: u8, l: u8, list: &[u8], roles: &[u8], slots: &[u8], page: &[u8]) -
     if !rows::shaped(n, l) {
         return false;
     }
-    if !whole(l, list) {
+    if !checks::whole(l, list.len()) {
         return false;
     }
     let w = 8 + (l as usize);
@@ -177,7 +184,7 @@ fn fitting(n: u8, l: u8, list: &[u8], roles: &[u8], slots: &[u8], page: &[u8]) -
     if roles.len() < list.len() / w {
         return false;
     }
-    if slots.len() < 5632 {
+    if slots.len() < SLOTS {
         return false;
     }
     size <= page.len()
@@ -194,12 +201,12 @@ pub fn solve(n: u8, l: u8, list: &[u8], roles: &[u8], slots: &mut [u8], page: &m
     }
     let all = write_page(
         page,
-        &mut slots[..5632],
+        &mut slots[..SLOTS],
         list,
         roles,
         n as usize,
         l as usize,
     );
-    octets::clear(&mut slots[..5632]);
+    octets::clear(&mut slots[..SLOTS]);
     if all { Solved::Page } else { Solved::Singular }
 }

@@ -12,7 +12,7 @@ use Rattle.rows.specs.Rows.{shape, rowBytes, rowCount, rowsOf}
 use Rattle.reading.specs.declared.Answer.the-variants as answer
 use Rattle.reading.specs.Answer.{numbersOf}
 use Rattle.reading.specs.Reading.{pickedRows, pageOf}
-use Rattle.reading.specs.Outcome.{Lent, Outcome, Check, refuses, wholeRows, roomy, strayFrom, usesMarks, read, gave}
+use Rattle.reading.specs.Outcome.{Lent, Outcome, Check, refuses, wholeRows, roomy, strayFrom, usesMarks, gave, roomFor}
 use Rattle.reading.proofs.Checks.{most-512}
 use Rattle.reading.proofs.Given.{none-given}
 use Rattle.reading.proofs.Spread.{marks-rows}
@@ -36,7 +36,7 @@ markedBoth us vs p = pair (p .answers) (withUses us (p .lent)) (withUsesToo vs (
 
 module _ (n l : ℕ) (list : List ℕ) (lent : Lent) (s : Second) (us vs us₂ vs₂ : List ℕ) (size : length us ≡ min (length vs) 512) (size₂ : length us₂ ≡ min (length vs₂) 512) where
   pub checks-same : checksBoth n l list (withUses us lent) (withUsesToo us₂ s) ≡ checksBoth n l list (withUses vs lent) (withUsesToo vs₂ s)
-  unfolding checksBoth roomy roomyToo
+  unfolding checksBoth roomFor roomyToo
   checks-same = go (wholeRows l list) refl
     where
       checked : Bool → List ℕ → List ℕ → Check

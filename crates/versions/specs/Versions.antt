@@ -3,7 +3,6 @@ use Prim.Native.Nat.{ℕ}
 use mathlib.Core.List.{List}
 use Rattle.octets.specs.Octets.{flat, over}
 use Rattle.reading.specs.Outcome.{Lent}
-use Rattle.both.specs.declared.Both.{Both}
 use Rattle.both.specs.Both.{Second, Pair, both}
 use Rattle.pairs.specs.Pairs.{pairs, counted, paired}
 

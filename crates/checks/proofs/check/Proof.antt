@@ -17,12 +17,12 @@ returns : tie.Need-returns
 unfolding gate
 returns c = rw (sym (c .before .shaped .ensures) ∙ not-true (c .before .shaped .result) (c .if1 .taken))
 
-list-fits-requires : tie.Need-list-fits-requires
-list-fits-requires c κs = search needs
+whole-requires : tie.Need-whole-requires
+whole-requires c κs = search needs
 
 returns-2 : tie.Need-returns-2
 unfolding gate
-returns-2 c = rw (sym (c .before .before .before .shaped .ensures) ∙ not-false (c .before .before .before .shaped .result) (c .before .before .if1 .left)) (rw (sym (c .before .list-fits .ensures) ∙ not-true (c .before .list-fits .result) (c .if2 .taken)))
+returns-2 c = rw (sym (c .before .before .before .shaped .ensures) ∙ not-false (c .before .before .before .shaped .result) (c .before .before .if1 .left)) (rw (sym (c .before .whole .ensures) ∙ not-true (c .before .whole .result) (c .if2 .taken)))
 
 add-m : tie.Need-add-m
 add-m c = search needs
@@ -43,13 +43,13 @@ returns-3 : tie.Need-returns-3
 unfolding gate
 returns-3 c =
     rw (sym (c .before .before .before .before .before .shaped .ensures) ∙ not-false (c .before .before .before .before .before .shaped .result) (c .before .before .before .before .if1 .left))
-    (rw (sym (c .before .before .before .list-fits .ensures) ∙ not-false (c .before .before .before .list-fits .result) (c .before .before .if2 .left)) (rw (sym (c .before .room-fits .ensures) ∙ not-true (c .before .room-fits .result) (c .if3 .taken))))
+    (rw (sym (c .before .before .before .whole .ensures) ∙ not-false (c .before .before .before .whole .result) (c .before .before .if2 .left)) (rw (sym (c .before .room-fits .ensures) ∙ not-true (c .before .room-fits .result) (c .if3 .taken))))
 
 returns-4 : tie.Need-returns-4
 unfolding gate
 returns-4 c =
     rw (sym (c .before .before .before .before .before .shaped .ensures) ∙ not-false (c .before .before .before .before .before .shaped .result) (c .before .before .before .before .if1 .left))
-    (rw (sym (c .before .before .before .list-fits .ensures) ∙ not-false (c .before .before .before .list-fits .result) (c .before .before .if2 .left)) (rw (sym (c .before .room-fits .ensures) ∙ not-false (c .before .room-fits .result) (c .if3 .left))))
+    (rw (sym (c .before .before .before .whole .ensures) ∙ not-false (c .before .before .before .whole .result) (c .before .before .if2 .left)) (rw (sym (c .before .room-fits .ensures) ∙ not-false (c .before .room-fits .result) (c .if3 .left))))
 
 pub check-spec : {M : Type 1} → statement M
 check-spec =
@@ -57,7 +57,7 @@ check-spec =
     (tie.spec
     shaped-requires
     returns
-    list-fits-requires
+    whole-requires
     returns-2
     add-m
     div-m

@@ -3,15 +3,16 @@
 use Prim.Native.Nat.{_+_, _≤_}
 use native.Mathlib.Omega.{arith}
 use Rattle.octets.proofs.Runs.{known-below}
-use Rattle.choose.specs.Pick.{usesIn, nonePicked, least as fewest}
-use Rattle.choose.proofs.Pairs.{uses-lt}
+use Rattle.words.specs.Pairs.{pairsIn}
+use Rattle.words.proofs.Pairs.{pairs-lt}
+use Rattle.choose.specs.Pick.{nonePicked, least as fewest}
 use Rattle.choose.proofs.Threshold.{least-le, least-halved}
 use Rattle.choose.proofs.least.Statement.{statement}
 use Rattle.choose.proofs.least.Tie as tie
 
 abbrev Inv-loop : tie.InvT-loop
 Inv-loop n counts low₀ width₀ low width =
-    (low ≤ fewest n (usesIn counts)) × (fewest n (usesIn counts) ≤ low + width) × (fewest n (usesIn counts) ≤ nonePicked) × (width ≤ nonePicked)
+    (low ≤ fewest n (pairsIn counts)) × (fewest n (pairsIn counts) ≤ low + width) × (fewest n (pairsIn counts) ≤ nonePicked) × (width ≤ nonePicked)
 
 abbrev μ-loop : tie.MeasureT-loop
 μ-loop n counts low₀ width₀ low width = width
@@ -19,7 +20,7 @@ abbrev μ-loop : tie.MeasureT-loop
 loop-holds : tie.Need-loop-holds Inv-loop μ-loop
 loop-holds c =
     let counts = c .before .args .counts .now in
-    omega (arith, least-le (c .before .args .n) (usesIn counts) nonePicked (uses-lt counts (known-below counts (c .shared-slice-known .given))))
+    omega (arith, least-le (c .before .args .n) (pairsIn counts) nonePicked (pairs-lt counts (known-below counts (c .shared-slice-known .given))))
 
 add-raised : tie.Need-add-raised Inv-loop μ-loop
 add-raised c = omega arith

@@ -1,41 +1,32 @@
--- `choose::mark_all` meets its contract: a loop from the front that fills both buffers, beside which the next kept place is the number
--- of rows kept so far.
+-- `choose::mark_all` meets its contract: a loop from the front that fills both buffers.
 -- Assumes nothing.
-use Prim.Native.Nat.{_-_}
-use native.Mathlib.Omega.{arith}
+use mathlib.Core.Path.{ap, _∙_}
+use Prim.Native.Nat.{_-_, _/_}
 use lib.ListN.{length}
-use Rattle.choose.proofs.Marking.{Marking, counted, marking-start, marking-more, marking-end}
+use Rattle.choose.specs.Mark.{markOf}
+use Rattle.choose.proofs.Marking.{Marking, marking-start, marking-more, marking-end}
+use borrow.Author.Needs.{needs}
+use native.Mathlib.Omega.{arith}
 use Rattle.choose.proofs.mark_all.Statement.{statement}
 use Rattle.choose.proofs.mark_all.Tie as tie
 
 abbrev Inv-loop : tie.InvT-loop
-Inv-loop flags counts least uses₀ roles₀ place₀ arrival₀ arrival-end uses roles place arrival =
-    Marking flags counts uses₀ roles₀ least uses roles place arrival
+Inv-loop places counts least uses₀ roles₀ arrival₀ arrival-end uses roles arrival = Marking places counts uses₀ roles₀ least uses roles arrival
 
 abbrev μ-loop : tie.MeasureT-loop
-μ-loop flags counts least uses₀ roles₀ place₀ arrival₀ arrival-end uses roles place arrival = length flags - arrival
+μ-loop places counts least uses₀ roles₀ arrival₀ arrival-end uses roles arrival = length places / 2 - arrival
 
 loop-holds : tie.Need-loop-holds Inv-loop μ-loop
 loop-holds c = marking-start _ _ _ _ _
 
-shared-slice-read-mark-at : tie.Need-shared-slice-read-mark-at Inv-loop μ-loop
-shared-slice-read-mark-at c = omega arith
+given-requires : tie.Need-given-requires Inv-loop μ-loop
+given-requires c κs = search needs
 
-mark-at-requires : tie.Need-mark-at-requires Inv-loop μ-loop
-mark-at-requires c κs kept =
-    let start = c .before .before .before .before .before .before .before in
-    let args = start .args in
-    rw (c .before .before .loop .inv .here)
-    (counted (args .flags .now) (args .counts .now) (args .least) (c .before .before .loop .arrival) (c .before .loop-test .taken) (start .pre .1) kept)
+mark-of-requires : tie.Need-mark-of-requires Inv-loop μ-loop
+mark-of-requires c κs = search needs
 
-mul-uses : tie.Need-mul-uses Inv-loop μ-loop
-mul-uses c = omega arith
-
-slice-write-uses : tie.Need-slice-write-uses Inv-loop μ-loop
-slice-write-uses c = omega arith
-
-slice-write-roles : tie.Need-slice-write-roles Inv-loop μ-loop
-slice-write-roles c = omega arith
+put-requires : tie.Need-put-requires Inv-loop μ-loop
+put-requires c κs = omega arith
 
 add-arrival : tie.Need-add-arrival Inv-loop μ-loop
 add-arrival c = omega arith
@@ -45,8 +36,10 @@ loop-less c = omega arith
 
 loop-again : tie.Need-loop-again Inv-loop μ-loop
 loop-again c =
-    let start = c .before .before .before .before .before .before .before .before in
-    marking-more _ _ _ _ _ _ _ _ _ (c .before .before .before .loop .inv) (start .pre .0) (start .pre .1) (c .before .before .loop-test .taken) _ (c .mark-at .ensures)
+    let A = c .before .before .before .before .before .before .before .before .before .before .before .before .before .before .before .args in
+    rw (c .before .before .before .before .put .ensures .0, c .before .before .before .before .put .ensures .1)
+    (marking-more _ _ _ _ _ _ _ _ (c .before .before .before .before .before .before .before .before .before .before .loop .inv) (c .before .before .before .before .before .before .before .before .before .before .before .before .before .before .before .pre) (c .before .before .before .before .before .before .before .before .before .loop-test .taken) (c .before .before .before .before .before .before .before .mark-of .result)
+    (c .before .before .before .before .before .before .before .mark-of .ensures ∙ ap (markOf (A .least) (A .counts .now)) (c .before .before .before .before .before .before .before .before .given .ensures)))
 
 same-length : tie.Need-same-length Inv-loop μ-loop
 same-length c = c .before .loop .inv .uses-so .long
@@ -55,7 +48,7 @@ same-length-2 : tie.Need-same-length-2 Inv-loop μ-loop
 same-length-2 c = c .before .loop .inv .roles-so .long
 
 returns : tie.Need-returns Inv-loop μ-loop
-returns c = marking-end _ _ _ _ _ _ _ _ _ (c .before .loop .inv) (c .before .before .before .before .before .before .pre .0) (c .loop-test .left)
+returns c = marking-end _ _ _ _ _ _ _ _ (c .before .loop .inv) (c .before .before .before .before .before .before .pre) (c .loop-test .left)
 
 pub mark-all-spec : {M : Type 1} → statement M
 mark-all-spec =
@@ -64,11 +57,9 @@ mark-all-spec =
     Inv-loop
     μ-loop
     loop-holds
-    shared-slice-read-mark-at
-    mark-at-requires
-    mul-uses
-    slice-write-uses
-    slice-write-roles
+    given-requires
+    mark-of-requires
+    put-requires
     add-arrival
     loop-less
     loop-again

@@ -2,15 +2,16 @@
 -- Assumes nothing.
 use borrow.Author.Needs.{needs}
 use borrow.Author.Tests.{lt-ltb, le-ltb, eq-eqb, ne-eqb}
-use Rattle.choose.specs.Pick.{usesIn, choiceOf}
-use Rattle.choose.proofs.Pairs.{length-uses}
+use Rattle.words.specs.Pairs.{pairsIn}
+use Rattle.words.proofs.Pairs.{length-pairs}
+use Rattle.choose.specs.Pick.{choiceOf}
 use Rattle.choose.proofs.Threshold.{marked-least}
 use Rattle.choose.proofs.pick.Statement.{statement}
 use Rattle.choose.proofs.pick.Tie as tie
 
 returns : tie.Need-returns
 unfolding choiceOf
-returns c = rw (length-uses (c .before .before .args .counts .now), lt-ltb _ _ (c .if1 .taken))
+returns c = rw (length-pairs (c .before .before .args .counts .now), lt-ltb _ _ (c .if1 .taken))
 
 least-requires : tie.Need-least-requires
 least-requires c κs = search needs
@@ -23,9 +24,9 @@ unfolding choiceOf
 returns-2 c =
     let start = c .before .before .before .before .before .args in
     rw (
-      length-uses (start .counts .now),
+      length-pairs (start .counts .now),
       le-ltb _ _ (c .before .before .before .if1 .left),
-      marked-least (start .n) (usesIn (start .counts .now)),
+      marked-least (start .n) (pairsIn (start .counts .now)),
       ← c .before .before .least .ensures,
       ← c .before .reached .ensures,
       eq-eqb _ _ (c .if2 .taken),
@@ -36,9 +37,9 @@ unfolding choiceOf
 returns-3 c =
     let start = c .before .before .before .before .before .args in
     rw (
-      length-uses (start .counts .now),
+      length-pairs (start .counts .now),
       le-ltb _ _ (c .before .before .before .if1 .left),
-      marked-least (start .n) (usesIn (start .counts .now)),
+      marked-least (start .n) (pairsIn (start .counts .now)),
       ← c .before .before .least .ensures,
       ← c .before .reached .ensures,
       ne-eqb _ _ (c .if2 .left),

@@ -25,13 +25,13 @@ same-length c = search needs
 returns : tie.Need-returns
 returns c =
     let A = c .before .before .before .before .before .before .before .before .before .before .args in
-    let e = absorbed-so (length (A .row .now)) (number (A .row .now)) (A .arrival .0) (A .place .0) (A .state .now) (sym (c .before .before .before .before .before .before .before .taking .ensures) ∙ c .before .before .before .before .before .before .if1 .taken) in
+    let e = absorbed-so (length (A .row .now)) (number (A .row .now)) (A .arrival .0) (A .rank) (A .state .now) (sym (c .before .before .before .before .before .before .before .taking .ensures) ∙ c .before .before .before .before .before .before .if1 .taken) in
     (c .before .before .before .take-in .ensures .0 ∙ ap (λ (o : Absorption). o .answer) e, c .before .before .before .take-in .ensures .1 ∙ ap (λ (o : Absorption). o .state) e)
 
 returns-2 : tie.Need-returns-2
 returns-2 c =
     let A = c .before .before .before .before .args in
-    let e = absorbed-not (length (A .row .now)) (number (A .row .now)) (A .arrival .0) (A .place .0) (A .state .now) (sym (c .before .taking .ensures) ∙ c .if1 .left) in
+    let e = absorbed-not (length (A .row .now)) (number (A .row .now)) (A .arrival .0) (A .rank) (A .state .now) (sym (c .before .taking .ensures) ∙ c .if1 .left) in
     (ap (λ (o : Absorption). o .answer) e, ap (λ (o : Absorption). o .state) e)
 
 pub absorb-spec : {M : Type 1} → statement M

@@ -7,7 +7,8 @@ use mathlib.Core.List.{List, _++_}
 use Prim.Native.Nat.{ℕ, _+_, _/_}
 use lib.ListN.{length, take, drop}
 use Rattle.rows.specs.Rows.{rowCount, rowsOf}
-use Rattle.echelon.specs.Eliminating.{Elimination, absorbEach, emptied}
+use Rattle.echelon.specs.declared.Eliminated.the-variants.{Rank}
+use Rattle.echelon.specs.Eliminating.{absorbEach, emptied}
 use Rattle.echelon.proofs.Places.{sizes}
 use Rattle.echelon.proofs.Emptied.{Eliminates, eliminates-so, eliminated-so, eliminated-not, emptied-is}
 use Rattle.echelon.proofs.eliminate.Statement.{statement}
@@ -45,7 +46,9 @@ clear-requires : tie.Need-clear-requires
 clear-requires c κs = search needs
 
 absorb-each-requires : tie.Need-absorb-each-requires
-absorb-each-requires c κs = (omega arith, fit (c .before .before .before .before .before) .many)
+absorb-each-requires c κs =
+    let E = fit (c .before .before .before .before .before) in
+    (omega arith, omega (arith, E .most), E .many)
 
 same-length : tie.Need-same-length
 same-length c = search needs
@@ -54,10 +57,10 @@ same-length c = search needs
 abbrev Start : (c : tie.After-clear) → Type 0
 Start c =
     let S = c .before .before .before .before .before .before .args .state .now in
-    take 0 S ++ (c .clear .last .0 ++ drop 29312 (drop 0 S)) ≡ emptied S
+    take 0 S ++ (c .clear .last .0 ++ drop 29824 (drop 0 S)) ≡ emptied S
 
 start : (c : tie.After-clear) → Start c
-start c = emptied-is 29312 (c .before .before .before .before .before .before .args .state .now) (c .clear .last .0) (sym (sizes .5)) (fit (c .before .before) .whole) (c .clear .ensures)
+start c = emptied-is 29824 (c .before .before .before .before .before .before .args .state .now) (c .clear .last .0) (sym (sizes .5)) (fit (c .before .before) .whole) (c .clear .ensures)
 
 returns : tie.Need-returns
 unfolding rowCount rowsOf
@@ -66,16 +69,15 @@ returns c =
     let e = eliminated-so (A .l) (A .list .now) (A .state .now) (sym (c .before .before .before .before .before .before .before .before .before .eliminating .ensures) ∙ c .before .before .before .before .before .before .before .before .if1 .taken) in
     let s = start (c .before .before .before .before .before .before) in
     let a = c .before .before .absorb-each in (
-      a .ensures .0 ∙ ap (λ (st : List ℕ). absorbEach (8 + A .l) 0 (rowsOf (A .l) (A .list .now)) (record { state = st; rank = 0 }) .rank) s ∙ ap (λ (o : Elimination). o .rank) e,
-      a .ensures .1 ∙ ap (λ (st : List ℕ). absorbEach (8 + A .l) 0 (rowsOf (A .l) (A .list .now)) (record { state = st; rank = 0 }) .state) s ∙ ap (λ (o : Elimination). o .state) e,
+      ap Rank (a .ensures .0 ∙ ap (λ (st : List ℕ). absorbEach (8 + A .l) 0 (rowsOf (A .l) (A .list .now)) (record { state = st; rank = 0 }) .rank) s) ∙ e .0,
+      a .ensures .1 ∙ ap (λ (st : List ℕ). absorbEach (8 + A .l) 0 (rowsOf (A .l) (A .list .now)) (record { state = st; rank = 0 }) .state) s ∙ e .1,
     )
 
 returns-2 : tie.Need-returns-2
 unfolding rowCount
 returns-2 c =
     let A = c .before .before .before .before .args in
-    let e = eliminated-not (A .l) (A .list .now) (A .state .now) (sym (c .before .eliminating .ensures) ∙ c .if1 .left) in
-    (ap (λ (o : Elimination). o .rank) e, ap (λ (o : Elimination). o .state) e)
+    eliminated-not (A .l) (A .list .now) (A .state .now) (sym (c .before .eliminating .ensures) ∙ c .if1 .left)
 
 pub eliminate-spec : {M : Type 1} → statement M
 eliminate-spec =

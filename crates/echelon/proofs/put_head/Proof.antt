@@ -16,10 +16,10 @@ use Rattle.echelon.proofs.put_head.Statement.{statement}
 use Rattle.echelon.proofs.put_head.Tie as tie
 
 mul-h : tie.Need-mul-h
-mul-h c = search needs
+mul-h c = omega (arith, sizes, c .before .before .pre .0)
 
 add-h : tie.Need-add-h
-add-h c = search needs
+add-h c = omega (arith, sizes, c .before .before .pre .0)
 
 sub-h : tie.Need-sub-h
 sub-h c = search needs
@@ -28,10 +28,10 @@ mul-h-2 : tie.Need-mul-h-2
 mul-h-2 c = search needs
 
 add-h-2 : tie.Need-add-h-2
-add-h-2 c = search needs
+add-h-2 c = omega (arith, sizes, c .before .before .pre .0)
 
 add-e : tie.Need-add-e
-add-e c = search needs
+add-e c = omega (arith, sizes, c .before .before .pre .0)
 
 sub-put-little : tie.Need-sub-put-little
 sub-put-little c = search needs
@@ -59,7 +59,7 @@ unfolding headAt headsAt headOf
 returns c =
     let S = c .before .before .before .before .before .before .before in
     let state : List ℕ = S .args .state .now in
-    let h : ℕ = 26752 + 512 * (S .args .t / 64) + 8 * (63 - S .args .t % 64) in
+    let h : ℕ = 27264 + 512 * (S .args .t / 64) + 8 * (63 - S .args .t % 64) in
     let eight : h + 8 - h ≡ 8 = omega arith in
     let size : length (take (h + 8 - h) (drop h state)) ≡ 8 = rw eight (length-part 8 h state (omega (arith, sizes, S .pre))) in
     let word : c .before .before .put-little .last .0 ≡ headOf (S .args .t) (S .args .vector .now) = c .before .before .put-little .ensures ∙ ap₂ littleBytes size (c .before .before .before .word .ensures) in

@@ -2,7 +2,8 @@
 -- Assumes nothing.
 use native.Mathlib.Omega.{arith}
 use borrow.Author.Needs.{needs}
-use mathlib.Core.Path.{_≡_, sym, ap, _∙_}
+use mathlib.Core.Path.{_≡_, sym, ap, ap₂, _∙_}
+use mathlib.Core.List.{List}
 use Prim.Native.Nat.{ℕ}
 use lib.ListN.{length, length-take, length-drop, length-replicate}
 use Rattle.octets.specs.Octets.{number}
@@ -10,15 +11,15 @@ use Rattle.basis.specs.Algorithm2.{Pass}
 use Rattle.echelon.specs.State.{mostKept, vectorBytes, Absorption, keptState, passIn}
 use Rattle.echelon.proofs.Places.{sizes}
 use Rattle.echelon.proofs.Absorbing.{Takes, takes-so, taken-other, taken-kept, taken-full}
-use Rattle.echelon.proofs.Vectors.{tail-digits, counted-same, kept-same}
+use Rattle.echelon.proofs.Vectors.{tail-digits, counted-same}
 use Rattle.echelon.proofs.take_in.Statement.{statement}
 use Rattle.echelon.proofs.take_in.Tie as tie
 
 abbrev Fit : (c : tie.Start) → Type 0
-Fit c = Takes (length (c .args .row .now)) (c .args .arrival .0) (c .args .place .0) (length (c .args .state .now))
+Fit c = Takes (length (c .args .row .now)) (c .args .arrival .0) (c .args .rank) (length (c .args .state .now))
 
 fit : (c : tie.Start) → Fit c
-fit c = takes-so (length (c .args .row .now)) (c .args .arrival .0) (c .args .place .0) (length (c .args .state .now)) (c .pre .1)
+fit c = takes-so (length (c .args .row .now)) (c .args .arrival .0) (c .args .rank) (length (c .args .state .now)) (c .pre .1)
 
 attempt-requires : tie.Need-attempt-requires
 attempt-requires c κs =
@@ -58,11 +59,11 @@ returns c =
     let A = S .args in
     let a = c .before .before .before .before .before .before .before .before .before .attempt in
     let p : Pass = passIn (length (A .row .now)) (number (A .row .now)) (A .state .now) in
-    let e = taken-other (length (A .row .now)) p (A .arrival .0) (A .place .0) (A .state .now) (rw (a .ensures .0) at (c .before .before .before .before .before .before .if1 .taken)) in (
+    let e = taken-other (length (A .row .now)) p (A .arrival .0) (A .rank) (A .state .now) (rw (a .ensures .0) at (c .before .before .before .before .before .before .if1 .taken)) in (
       sym (ap (λ (o : Absorption). o .answer) e),
       c .before .before .count .ensures
-          ∙ counted-same _ (p .vector) (A .arrival .0) (A .place .0) (A .state .now)
-          (tail-digits (p .vector) (A .place .0) (a .last .0) (a .ensures .1) (fit S .place))
+          ∙ counted-same _ (p .vector) (A .arrival .0) (A .rank) (A .state .now)
+          (tail-digits (p .vector) (A .rank) (a .last .0) (a .ensures .1) (fit S .place))
           ∙ sym (ap (λ (o : Absorption). o .state) e),
     )
 
@@ -88,15 +89,14 @@ same-length-4 c = search needs
 returns-2 : tie.Need-returns-2
 unfolding mostKept
 returns-2 c =
-    let S = c .before .before .before .before .before .before .before .before .before .before .before .before .before .before .before .before .before in
+    let S = c .before .before .before .before .before .before .before .before .before .before .before .before .before .before .before in
     let A = S .args in
-    let a = c .before .before .before .before .before .before .before .before .before .before .before .attempt in
+    let a = c .before .before .before .before .before .before .before .before .before .attempt in
     let p : Pass = passIn (length (A .row .now)) (number (A .row .now)) (A .state .now) in
-    let e = taken-kept (length (A .row .now)) p (A .arrival .0) (A .place .0) (A .state .now) (rw (a .ensures .0) at (c .before .before .before .before .before .before .before .before .if1 .left)) (c .before .before .before .before .before .before .before .if2 .taken) in (
+    let e = taken-kept (length (A .row .now)) p (A .arrival .0) (A .rank) (A .state .now) (rw (a .ensures .0) at (c .before .before .before .before .before .before .if1 .left)) (c .before .before .before .before .before .if2 .taken) in (
       sym (ap (λ (o : Absorption). o .answer) e),
-      c .before .before .before .before .keep .ensures
-          ∙ ap (λ (t : ℕ). keptState t (number (a .last .0)) (A .arrival .0) (A .place .0) (A .state .now)) (a .ensures .0)
-          ∙ kept-same (p .place) (p .vector) (A .arrival .0) (A .place .0) (a .last .0) (A .state .now) (a .ensures .1)
+      c .before .before .keep .ensures
+          ∙ ap₂ (λ (t : ℕ) (v : List ℕ). keptState t v (A .arrival .0) (A .rank) (A .state .now)) (a .ensures .0) (a .ensures .1)
           ∙ sym (ap (λ (o : Absorption). o .state) e),
     )
 
@@ -113,7 +113,7 @@ returns-3 c =
     let A = S .args in
     let a = c .before .before .before .before .attempt in
     let p : Pass = passIn (length (A .row .now)) (number (A .row .now)) (A .state .now) in
-    let e = taken-full (length (A .row .now)) p (A .arrival .0) (A .place .0) (A .state .now) (rw (a .ensures .0) at (c .before .if1 .left)) (c .if2 .left) in
+    let e = taken-full (length (A .row .now)) p (A .arrival .0) (A .rank) (A .state .now) (rw (a .ensures .0) at (c .before .if1 .left)) (c .if2 .left) in
     (sym (ap (λ (o : Absorption). o .answer) e), sym (ap (λ (o : Absorption). o .state) e))
 
 pub take-in-spec : {M : Type 1} → statement M

@@ -1,19 +1,17 @@
 -- `laying::lay` meets its contract: a law for each answer, in the definition's order.
 -- Assumes nothing.
 use mathlib.Core.Path.{_≡_, refl, sym, ap, _∙_}
-use Prim.Native.Nat.{ℕ}
-use mathlib.Core.Bool.{true, false}
+use mathlib.Core.Bool.{true}
 use denote.Ref.{now}
 use borrow.Author.Needs.{needs}
 use borrow.Author.Tests.{not-true, not-false, eq-eqb, ne-eqb}
 use Rattle.rows.specs.Rows.{shape}
 use Rattle.frame.specs.declared.Frame.{Frame}
 use Rattle.frame.specs.declared.Frame.the-variants.{Good}
-use Rattle.laying.specs.declared.Laid.{Laid}
-use Rattle.laying.specs.declared.Laid.the-variants.{Shape, Refused, OtherPage}
+use Rattle.laying.specs.declared.Laid.the-variants.{Refused}
 use Rattle.frame.specs.Reading.{reading}
-use Rattle.frame.specs.Numbers.{numbersOf, isGood}
-use Rattle.laying.specs.Laying.{samePage, placing, laid, listAfter}
+use Rattle.frame.specs.Numbers.{numbersOf}
+use Rattle.laying.specs.Laying.{samePage, listAfter}
 use Rattle.frame.proofs.Good.{refused-is, good-payload}
 use Rattle.laying.proofs.Laying.{laid-shape, laid-refused, laid-other, laid-placing, row-is}
 use Rattle.laying.proofs.lay.Statement.{statement}

@@ -24,17 +24,17 @@ slice-relend-prefix-sift : tie.Need-slice-relend-prefix-sift
 slice-relend-prefix-sift c = omega (arith, wide (c .before .before .before .before .before .before .before))
 
 slice-aggregate-sift : tie.Need-slice-aggregate-sift
-slice-aggregate-sift c = sym (length-take-le 29312 (c .before .before .before .before .before .before .before .before .args .scratch .now) (omega (arith, wide (c .before .before .before .before .before .before .before .before))))
+slice-aggregate-sift c = sym (length-take-le 29824 (c .before .before .before .before .before .before .before .before .args .scratch .now) (omega (arith, wide (c .before .before .before .before .before .before .before .before))))
 
 sift-requires : tie.Need-sift-requires
 unfolding stateBytes
 sift-requires c κs =
     let S = c .before .before .before .before .before .before .before .before in
-    (listed _ _ _ _ (S .pre), le-of-eq (sym (length-take-le 29312 (S .args .scratch .now) (omega (arith, wide S)))), room _ _ _ _ (S .pre) .uses, room _ _ _ _ (S .pre) .roles)
+    (listed _ _ _ _ (S .pre), le-of-eq (sym (length-take-le 29824 (S .args .scratch .now) (omega (arith, wide S)))), room _ _ _ _ (S .pre) .uses, room _ _ _ _ (S .pre) .roles)
 
 -- the scratch after the first part came back
-first-long : (c : tie.After-sift) → length (c .sift .last .1 .1 .1 .1 .1 .0 ++ drop 29312 (c .before .before .before .before .before .before .before .before .before .args .scratch .now)) ≡ length (c .before .before .before .before .before .before .before .before .before .args .scratch .now)
-first-long c = part-long 29312 (c .sift .last .1 .1 .1 .1 .1 .0) (c .before .before .before .before .before .before .before .before .before .args .scratch .now) (omega (arith, wide (c .before .before .before .before .before .before .before .before .before))) (c .sift .kept .1 .1 .1 .1 .1 .0)
+first-long : (c : tie.After-sift) → length (c .sift .last .1 .1 .1 .1 .1 .0 ++ drop 29824 (c .before .before .before .before .before .before .before .before .before .args .scratch .now)) ≡ length (c .before .before .before .before .before .before .before .before .before .args .scratch .now)
+first-long c = part-long 29824 (c .sift .last .1 .1 .1 .1 .1 .0) (c .before .before .before .before .before .before .before .before .before .args .scratch .now) (omega (arith, wide (c .before .before .before .before .before .before .before .before .before))) (c .sift .kept .1 .1 .1 .1 .1 .0)
 
 slice-relend-prefix-conclude : tie.Need-slice-relend-prefix-conclude
 slice-relend-prefix-conclude c = omega (arith, first-long (c .before .before .before .before .before .before .before), wide (c .before .before .before .before .before .before .before .before .before .before .before .before .before .before .before .before))
@@ -42,25 +42,25 @@ slice-relend-prefix-conclude c = omega (arith, first-long (c .before .before .be
 slice-aggregate-conclude : tie.Need-slice-aggregate-conclude
 slice-aggregate-conclude c =
     let S = c .before .before .before .before .before .before .before .before .before .before .before .before .before .before .before .before .before in
-    sym (length-take-le 5632 (c .before .before .before .before .before .before .before .before .sift .last .1 .1 .1 .1 .1 .0 ++ drop 29312 (S .args .scratch .now)) (omega (arith, first-long (c .before .before .before .before .before .before .before .before), wide S)))
+    sym (length-take-le 5632 (c .before .before .before .before .before .before .before .before .sift .last .1 .1 .1 .1 .1 .0 ++ drop 29824 (S .args .scratch .now)) (omega (arith, first-long (c .before .before .before .before .before .before .before .before), wide S)))
 
 conclude-requires : tie.Need-conclude-requires
 unfolding slotBytes
 conclude-requires c κs =
     let S = c .before .before .before .before .before .before .before .before .before .before .before .before .before .before .before .before .before .before in
     let K = c .before .before .before .before .before .before .before .before .before .sift in
-    let slots : List ℕ = take 5632 (K .last .1 .1 .1 .1 .1 .0 ++ drop 29312 (S .args .scratch .now)) in
+    let slots : List ℕ = take 5632 (K .last .1 .1 .1 .1 .1 .0 ++ drop 29824 (S .args .scratch .now)) in
     let long : 5632 ≤ length slots =
-    le-of-eq (sym (length-take-le 5632 (K .last .1 .1 .1 .1 .1 .0 ++ drop 29312 (S .args .scratch .now)) (omega (arith, first-long (c .before .before .before .before .before .before .before .before .before), wide S)))) in
+    le-of-eq (sym (length-take-le 5632 (K .last .1 .1 .1 .1 .1 .0 ++ drop 29824 (S .args .scratch .now)) (omega (arith, first-long (c .before .before .before .before .before .before .before .before .before), wide S)))) in
     λ k. solvable _ _ _ _ (S .pre) _ _ _ _ (K .ensures) k slots long (K .kept .1 .1 .1 .1 .0)
 
 -- and after the second
 second-long : (c : tie.After-conclude)
-    → length (c .conclude .last .1 .1 .1 .1 .1 .1 .0 ++ drop 5632 (c .before .before .before .before .before .before .before .before .before .before .sift .last .1 .1 .1 .1 .1 .0 ++ drop 29312 (c .before .before .before .before .before .before .before .before .before .before .before .before .before .before .before .before .before .before .before .args .scratch .now)))
+    → length (c .conclude .last .1 .1 .1 .1 .1 .1 .0 ++ drop 5632 (c .before .before .before .before .before .before .before .before .before .before .sift .last .1 .1 .1 .1 .1 .0 ++ drop 29824 (c .before .before .before .before .before .before .before .before .before .before .before .before .before .before .before .before .before .before .before .args .scratch .now)))
     ≡ length (c .before .before .before .before .before .before .before .before .before .before .before .before .before .before .before .before .before .before .before .args .scratch .now)
 second-long c =
     let S = c .before .before .before .before .before .before .before .before .before .before .before .before .before .before .before .before .before .before .before in
-    let X : List ℕ = c .before .before .before .before .before .before .before .before .before .before .sift .last .1 .1 .1 .1 .1 .0 ++ drop 29312 (S .args .scratch .now) in
+    let X : List ℕ = c .before .before .before .before .before .before .before .before .before .before .sift .last .1 .1 .1 .1 .1 .0 ++ drop 29824 (S .args .scratch .now) in
     part-long 5632 (c .conclude .last .1 .1 .1 .1 .1 .1 .0) X (omega (arith, first-long (c .before .before .before .before .before .before .before .before .before .before), wide S)) (c .conclude .kept .1 .1 .1 .1 .1 .1 .0) ∙ first-long (c .before .before .before .before .before .before .before .before .before .before)
 
 slice-relend-prefix-clear : tie.Need-slice-relend-prefix-clear
@@ -70,7 +70,7 @@ slice-aggregate-clear : tie.Need-slice-aggregate-clear
 slice-aggregate-clear c =
     let S = c .before .before .before .before .before .before .before .before .before .before .before .before .before .before .before .before .before .before .before .before .before .before .before .before in
     let C = c .before .before .before .before .before .conclude in
-    let X : List ℕ = C .last .1 .1 .1 .1 .1 .1 .0 ++ drop 5632 (c .before .before .before .before .before .before .before .before .before .before .before .before .before .before .before .sift .last .1 .1 .1 .1 .1 .0 ++ drop 29312 (S .args .scratch .now)) in
+    let X : List ℕ = C .last .1 .1 .1 .1 .1 .1 .0 ++ drop 5632 (c .before .before .before .before .before .before .before .before .before .before .before .before .before .before .before .sift .last .1 .1 .1 .1 .1 .0 ++ drop 29824 (S .args .scratch .now)) in
     sym (length-take-le 32768 X (omega (arith, second-long (c .before .before .before .before .before), wide S)))
 
 clear-requires : tie.Need-clear-requires
@@ -89,7 +89,7 @@ same-length-4 : tie.Need-same-length-4
 same-length-4 c =
     let S = c .before .before .before .before .before .before .before .before .before .before .before .before .before .before .before .before .before .before .before .before .before .before .before .before .before .before .before in
     let C = c .before .before .before .before .before .before .before .before .conclude in
-    let X : List ℕ = C .last .1 .1 .1 .1 .1 .1 .0 ++ drop 5632 (c .before .before .before .before .before .before .before .before .before .before .before .before .before .before .before .before .before .before .sift .last .1 .1 .1 .1 .1 .0 ++ drop 29312 (S .args .scratch .now)) in
+    let X : List ℕ = C .last .1 .1 .1 .1 .1 .1 .0 ++ drop 5632 (c .before .before .before .before .before .before .before .before .before .before .before .before .before .before .before .before .before .before .sift .last .1 .1 .1 .1 .1 .0 ++ drop 29824 (S .args .scratch .now)) in
     part-long 32768 (c .before .before .clear .last .0) X (omega (arith, second-long (c .before .before .before .before .before .before .before .before), wide S)) (c .before .before .clear .kept .0) ∙ second-long (c .before .before .before .before .before .before .before .before)
 
 returns : tie.Need-returns
@@ -99,7 +99,7 @@ returns c =
     let C = c .before .before .before .before .before .before .before .before .conclude in
     let Z = c .before .before .clear in
     read-ends _ _ _ _ (S .pre) _ _ _ _ (K .ensures) (C .result) (C .last .1 .1 .1 .1 .1 .1 .1 .0) _ (C .ensures)
-    (cleared (S .args .scratch .now) (K .last .1 .1 .1 .1 .1 .0) (C .last .1 .1 .1 .1 .1 .1 .0) (Z .last .0) 29312 5632 (wide S) (omega arith) (omega arith)
+    (cleared (S .args .scratch .now) (K .last .1 .1 .1 .1 .1 .0) (C .last .1 .1 .1 .1 .1 .1 .0) (Z .last .0) 29824 5632 (wide S) (omega arith) (omega arith)
     (K .kept .1 .1 .1 .1 .1 .0) (C .kept .1 .1 .1 .1 .1 .1 .0) (Z .ensures))
 
 pub read-rows-spec : {M : Type 1} → statement M

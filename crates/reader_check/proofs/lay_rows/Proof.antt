@@ -6,7 +6,6 @@ use lib.ListN.{length}
 use native.Mathlib.Omega.{arith}
 use Rattle.reader_check.proofs.lay_rows.Statement.{statement}
 use Rattle.reader_check.proofs.lay_rows.Tie as tie
-use Rattle.reader_check.proofs.lay_row.Reads as lay-row-reads
 
 abbrev Inv-loop : tie.InvT-loop
 Inv-loop bytes list₀ i₀ at₀ list i at = (9 ≤ bytes) × (length list ≡ length list₀) × (at ≤ length list₀) × (i ≤ at)

@@ -1,57 +1,57 @@
--- `enter_all` meets its contract: at each row, those from there on fill the slots as all of them do.
+-- `enter_all` meets its contract: at each arrival, the rows from there on fill the slots as all of them do.
 -- Assumes nothing.
-use mathlib.Core.Path.{sym, _∙_}
-use Prim.Native.Nat.{_+_, _-_, _/_, _≤_}
-use native.Mathlib.Omega.{arith}
-use borrow.Author.Needs.{needs}
+use mathlib.Core.Path.{_≡_, sym, _∙_}
+use Prim.Native.Nat.{_-_, _*_, _/_}
 use borrow.Author.Tests.{not-true, not-false}
-use lib.ListN.{length}
+use lib.ListN.{length, take, drop}
+use denote.Ref.{now}
+use Rattle.places.proofs.AtArrival.{row-shows}
 use Rattle.solve.specs.Parts.{Ready}
-use Rattle.octets.proofs.Walk.{walk-room}
-use Rattle.solve.proofs.Offering.{Offering, offering-start, offering-ready, offering-end, offering-more, offering-stop}
+use Rattle.solve.proofs.Offering.{Offering, offering-start, next-room, offering-ready, offering-end, offering-more, offering-stop}
+use native.Mathlib.Omega.{arith}
 use Rattle.solve.proofs.enter_all.Statement.{statement}
 use Rattle.solve.proofs.enter_all.Tie as tie
 
 abbrev Inv-loop : tie.InvT-loop
-Inv-loop slots₀ work₀ list roles w rows at₀ arrival₀ slots work at arrival = Offering list roles slots₀ w work slots arrival at
+Inv-loop slots₀ work₀ list roles w arrival₀ arrival-end slots work arrival = Offering list roles slots₀ w work slots arrival
 
 abbrev μ-loop : tie.MeasureT-loop
-μ-loop slots₀ work₀ list roles w rows at₀ arrival₀ slots work at arrival = length list / w - arrival
+μ-loop slots₀ work₀ list roles w arrival₀ arrival-end slots work arrival = length list / w - arrival
 
-div-rows : tie.Need-div-rows Inv-loop μ-loop
-div-rows c = omega (arith, c .before .before .before .before .pre .0 .least)
+div-arrival-end : tie.Need-div-arrival-end Inv-loop μ-loop
+div-arrival-end c = omega (arith, c .before .before .before .before .pre .0 .least)
 
 loop-holds : tie.Need-loop-holds Inv-loop μ-loop
 loop-holds c =
     let S = c .before .before .before .before in
     offering-start (S .args .list .now) (S .args .roles .now) (S .args .slots .now) (S .args .w) (S .args .work .now) (S .pre .0)
 
--- the next row is in the list
-room : (c : tie.In-loop Inv-loop μ-loop) → c .before .loop .at + c .before .before .before .before .before .before .args .w ≤ length (c .before .before .before .before .before .before .args .list .now)
-room c =
-    let A = c .before .before .before .before .before .before .args in
-    walk-room (A .w) (A .list .now) (c .before .loop .arrival) (c .before .loop .at) (c .before .loop .inv .walk) (c .loop-test .taken)
+row-requires : tie.Need-row-requires Inv-loop μ-loop
+row-requires c κs = tt
 
-add-end : tie.Need-add-end Inv-loop μ-loop
-add-end c = omega (arith, room c, c .before .before .before .before .before .before .good)
+role-at-requires : tie.Need-role-at-requires Inv-loop μ-loop
+role-at-requires c κs = omega (arith, c .before .before .before .loop-test .taken, c .before .before .before .before .before .before .before .before .before .pre .1)
 
-sub-offer : tie.Need-sub-offer Inv-loop μ-loop
-sub-offer c = omega arith
+-- the row that is offered
+abbrev Shown : (c : tie.After-row Inv-loop μ-loop) → Type 0
+Shown c =
+    let A = c .before .before .before .before .before .before .before .before .before .args in
+    now (c .row .result) ≡ take (A .w) (drop (c .before .before .before .before .loop .arrival * A .w) (A .list .now))
 
-part-offer-start : tie.Need-part-offer-start Inv-loop μ-loop
-part-offer-start c = search needs
-
-part-offer-end : tie.Need-part-offer-end Inv-loop μ-loop
-part-offer-end c = omega (arith, room (c .before .before))
-
-shared-slice-read-offer : tie.Need-shared-slice-read-offer Inv-loop μ-loop
-shared-slice-read-offer c = omega (arith, c .before .before .before .before .loop-test .taken, c .before .before .before .before .before .before .before .before .before .before .pre .1)
+shown : (c : tie.After-row Inv-loop μ-loop) → Shown c
+shown c =
+    let S = c .before .before .before .before .before .before .before .before .before in
+    let A = S .args in
+    let l = c .before .before .before .before .loop in
+    c .row .ensures .0
+    ∙ row-shows (A .w) (l .arrival) (A .list .now) (S .pre .0 .most) (omega (arith, c .before .before .before .loop-test .taken, S .pre .1))
+    (next-room (A .list .now) (A .roles .now) (A .slots .now) (A .w) (l .work) (l .slots) (l .arrival) (l .inv) (c .before .before .before .loop-test .taken))
 
 offer-requires : tie.Need-offer-requires Inv-loop μ-loop
 offer-requires c κs =
     let A = c .before .before .before .before .before .before .before .before .before .before .args in
     let l = c .before .before .before .before .before .loop in
-    offering-ready (A .list .now) (A .roles .now) (A .slots .now) (A .w) (l .work) (l .slots) (l .arrival) (l .at) (l .inv) (c .before .before .before .before .loop-test .taken)
+    offering-ready (A .list .now) (A .roles .now) (A .slots .now) (A .w) (l .work) (l .slots) (l .arrival) (l .inv) (c .before .before .before .before .loop-test .taken) (now (c .before .row .result)) (shown (c .before))
 
 -- what is there once it was offered
 ready : (c : tie.After-offer Inv-loop μ-loop) → Ready (c .before .before .before .before .before .before .before .before .before .before .before .args .w) (c .offer .last .1 .0) (c .offer .last .0)
@@ -70,11 +70,11 @@ returns c =
     let S = c .before .before .before .before .before .before .before .before .before .before .before .before .before .before .before .before in
     let l = c .before .before .before .before .before .before .before .before .before .before .before .loop in
     let o = c .before .before .before .before .before .offer in
-    offering-stop (S .args .list .now) (S .args .roles .now) (S .args .slots .now) (S .args .w) (l .work) (l .slots) (l .arrival) (l .at) (l .inv)
-    (c .before .before .before .before .before .before .before .before .before .before .loop-test .taken) (S .pre .1) (o .result) (o .last .0) (o .ensures) (not-true (o .result) (c .if1 .taken))
+    offering-stop (S .args .list .now) (S .args .roles .now) (S .args .slots .now) (S .args .w) (l .work) (l .slots) (l .arrival) (l .inv) (c .before .before .before .before .before .before .before .before .before .before .loop-test .taken)
+    (now (c .before .before .before .before .before .before .before .row .result)) (shown (c .before .before .before .before .before .before .before)) (S .pre .1 .0) (o .result) (o .last .0) (rw (c .before .before .before .before .before .before .role-at .ensures) at (o .ensures)) (not-true (o .result) (c .if1 .taken))
 
 add-arrival : tie.Need-add-arrival Inv-loop μ-loop
-add-arrival c = omega (arith, c .before .before .before .before .before .before .before .before .before .before .loop-test .taken, c .before .before .before .before .before .before .before .before .before .before .before .before .before .before .before .before .pre .1, c .before .before .before .before .before .before .before .before .before .before .before .before .before .before .before .before .good)
+add-arrival c = omega (arith, c .before .before .before .before .before .before .before .before .before .before .loop-test .taken)
 
 loop-less : tie.Need-loop-less Inv-loop μ-loop
 loop-less c = omega (arith, c .before .before .before .before .before .before .before .before .before .before .loop-test .taken)
@@ -84,8 +84,8 @@ loop-again c =
     let S = c .before .before .before .before .before .before .before .before .before .before .before .before .before .before .before .before in
     let l = c .before .before .before .before .before .before .before .before .before .before .before .loop in
     let o = c .before .before .before .before .before .offer in
-    offering-more (S .args .list .now) (S .args .roles .now) (S .args .slots .now) (S .args .w) (l .work) (l .slots) (l .arrival) (l .at) (l .inv)
-    (c .before .before .before .before .before .before .before .before .before .before .loop-test .taken) (S .pre .1) (o .result) (o .last .0) (o .ensures) (not-false (o .result) (c .if1 .left))
+    offering-more (S .args .list .now) (S .args .roles .now) (S .args .slots .now) (S .args .w) (l .work) (l .slots) (l .arrival) (l .inv) (c .before .before .before .before .before .before .before .before .before .before .loop-test .taken)
+    (now (c .before .before .before .before .before .before .before .row .result)) (shown (c .before .before .before .before .before .before .before)) (S .pre .1 .0) (o .result) (o .last .0) (rw (c .before .before .before .before .before .before .role-at .ensures) at (o .ensures)) (not-false (o .result) (c .if1 .left))
     (o .last .1 .0) (ready (c .before .before .before .before .before))
 
 same-length-3 : tie.Need-same-length-3 Inv-loop μ-loop
@@ -98,7 +98,7 @@ returns-2 : tie.Need-returns-2 Inv-loop μ-loop
 returns-2 c =
     let A = c .before .before .before .before .before .before .args in
     let l = c .before .loop in
-    offering-end (A .list .now) (A .roles .now) (A .slots .now) (A .w) (l .work) (l .slots) (l .arrival) (l .at) (l .inv) (c .loop-test .left)
+    offering-end (A .list .now) (A .roles .now) (A .slots .now) (A .w) (l .work) (l .slots) (l .arrival) (l .inv) (c .loop-test .left)
 
 pub enter-all-spec : {M : Type 1} → statement M
 enter-all-spec =
@@ -106,13 +106,10 @@ enter-all-spec =
     (tie.spec
     Inv-loop
     μ-loop
-    div-rows
+    div-arrival-end
     loop-holds
-    add-end
-    sub-offer
-    part-offer-start
-    part-offer-end
-    shared-slice-read-offer
+    row-requires
+    role-at-requires
     offer-requires
     same-length
     same-length-2

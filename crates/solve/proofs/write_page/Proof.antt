@@ -28,7 +28,7 @@ none c = slots-cleared (8 + c .before .before .before .before .before .before .a
 enter-all-requires : tie.Need-enter-all-requires
 enter-all-requires c κs =
     let S = c .before .before .before .before .before .before .before .before .before .before in
-    (record { least = omega arith; most = omega (arith, S .pre .0 .0); one = refl; all = c .before .before .before .before .clear .kept .0 ∙ S .pre .0 .1 }, S .pre .1 .known)
+    (record { least = omega arith; most = omega (arith, S .pre .0 .0); one = refl; all = c .before .before .before .before .clear .kept .0 ∙ S .pre .0 .1 }, (S .pre .1 .known, S .pre .1 .many))
 
 same-length : tie.Need-same-length
 same-length c = search needs

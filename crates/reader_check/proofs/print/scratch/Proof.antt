@@ -6,9 +6,6 @@ use borrow.Author.Needs.{needs}
 use native.Mathlib.Omega.{arith}
 use Rattle.reader_check.proofs.print.scratch.Statement.{statement}
 use Rattle.reader_check.proofs.print.scratch.Tie as tie
-use Rattle.io.proofs.write_all.Reads as write-all-reads
-use Rattle.reader_check.proofs.print.number.Reads as number-reads
-use Rattle.reader_check.proofs.print.one_if_zero.Reads as one-if-zero-reads
 
 abbrev Inv-loop : tie.InvT-loop
 Inv-loop scratch zeros₀ i₀ t4 t5 zeros i = (i ≤ length scratch) × (zeros ≤ i)

@@ -1,0 +1,4 @@
+pub mod Turned
+pub mod AtArrival
+pub mod OneMore
+pub mod Settled
