@@ -24,7 +24,7 @@ put-vector-requires : tie.Need-put-vector-requires
 put-vector-requires c κs =
     let S = c .before .before .before .before .before .before .before .before .before .before .before in
     let K = S .pre .0 in
-    (K .slot, rw (c .before .before .before .before .before .before .before .give-place .ensures .0) (K .place), omega (arith, c .before .before .before .put-head .kept .0, c .before .before .before .before .before .before .before .give-place .kept .0, K .whole), S .pre .1)
+    (omega (arith, K .slot, K .place), rw (c .before .before .before .before .before .before .before .give-place .ensures .0) (K .place), omega (arith, c .before .before .before .put-head .kept .0, c .before .before .before .before .before .before .before .give-place .kept .0, K .whole), S .pre .1)
 
 same-length : tie.Need-same-length
 same-length c = search needs

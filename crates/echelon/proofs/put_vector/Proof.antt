@@ -42,7 +42,7 @@ part-copy-end : tie.Need-part-copy-end
 part-copy-end c = omega (arith, sizes, room (c .before .before), c .before .before .pre .2)
 
 slice-aggregate-copy : tie.Need-slice-aggregate-copy
-slice-aggregate-copy c = sym (length-take-le 80 (c .before .before .before .before .args .vector .now) (omega (arith, sizes, c .before .before .before .before .pre .3)))
+slice-aggregate-copy c = sym (length-take-le _ (c .before .before .before .before .args .vector .now) (omega (arith, sizes, c .before .before .before .before .pre .3)))
 
 copy-requires : tie.Need-copy-requires
 copy-requires c κs = search needs
