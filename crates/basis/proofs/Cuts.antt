@@ -19,7 +19,7 @@ abbrev pub cut : ℕ → ℕ → ℕ
 cut s x = x / 2 ^ s
 
 abbrev pub cutPass : ℕ → Pass → Pass
-cutPass s p = record { vector = cut s (p .vector); place = p .place }
+cutPass s p = record { vector = cut s (p .vector); stop = p .stop }
 
 digit-cut : (k s x : ℕ) → digit k (cut s x) ≡ digit (k + s) x
 unfolding digit
@@ -34,8 +34,8 @@ pass-cut t s (x ∷ ss) v = rw (same v, same x) (go (digit (t + s + length ss) v
     same y = digit-cut (t + length (map (cut s) ss)) s y ∙ ap (λ (k : ℕ). digit k y) (omega (arith, length-map ss (cut s)))
 
     go : (b d : Bool) → pass t (map (cut s) ss) (cut s (v ⊕ x)) ≡ cutPass s (pass (t + s) ss (v ⊕ x)) → pass t (map (cut s) ss) (cut s v) ≡ cutPass s (pass (t + s) ss v)
-        → cond b (cond d (later (pass t (map (cut s) ss) (cut s v ⊕ cut s x))) (record { vector = cut s v; place = 0 })) (later (pass t (map (cut s) ss) (cut s v)))
-        ≡ cutPass s (cond b (cond d (later (pass (t + s) ss (v ⊕ x))) (record { vector = v; place = 0 })) (later (pass (t + s) ss v)))
+        → cond b (cond d (later (pass t (map (cut s) ss) (cut s v ⊕ cut s x))) (record { vector = cut s v; stop = 0 })) (later (pass t (map (cut s) ss) (cut s v)))
+        ≡ cutPass s (cond b (cond d (later (pass (t + s) ss (v ⊕ x))) (record { vector = v; stop = 0 })) (later (pass (t + s) ss v)))
     go true true added skipped = ap (λ (y : ℕ). later (pass t (map (cut s) ss) y)) (sym (key-⊕ s v x)) ∙ ap later added
     go true false added skipped = refl
     go false d added skipped = ap later skipped

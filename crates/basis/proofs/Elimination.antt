@@ -55,34 +55,34 @@ module _ (t : ℕ) (ks ss : List ℕ) (room : length ks ≤ t) (S : Rows t ks ss
     whole = rw (add-comm (length ss) t) at (shl-lt (length ss) t small)
 
     -- the pass stops exactly where it is none
-    pub rows-test : ltb (pass t ss (v * 2 ^ t) .place) (length ss) ≡ not (spans ks v)
+    pub rows-test : ltb (pass t ss (v * 2 ^ t) .stop) (length ss) ≡ not (spans ks v)
     rows-test = pass-test t ss (S .formed) (v * 2 ^ t) whole ∙ ap not rows-low
 
     -- where it stops, what is left is no longer than the slots
-    pub rows-lt : pass t ss (v * 2 ^ t) .place < length ss → left t ss v < 2 ^ (t + length ss)
+    pub rows-lt : pass t ss (v * 2 ^ t) .stop < length ss → left t ss v < 2 ^ (t + length ss)
     rows-lt h =
-        let k : ℕ = length ss - suc (pass t ss (v * 2 ^ t) .place) in
+        let k : ℕ = length ss - suc (pass t ss (v * 2 ^ t) .stop) in
         let top : Top (t + k) (left t ss v) = pass-stop t ss (S .formed) (v * 2 ^ t) whole k (omega arith) .0 in
         lt-of-lt-of-le (top .high) (pow-mono (omega arith))
 
-    pub rows-keep : length ks < t → pass t ss (v * 2 ^ t) .place < length ss
-        → Rows t (ks ++ (v ∷ [])) (set ss (pass t ss (v * 2 ^ t) .place) (left t ss v ⊕ 2 ^ length ks))
+    pub rows-keep : length ks < t → pass t ss (v * 2 ^ t) .stop < length ss
+        → Rows t (ks ++ (v ∷ [])) (set ss (pass t ss (v * 2 ^ t) .stop) (left t ss v ⊕ 2 ^ length ks))
     rows-keep less h =
-        rw (lifted-snoc t 0 ks v) (rw (zero-add (length ks)) (stand-keep t (lifted t 0 ks) ss S (pass t ss (v * 2 ^ t) .place) k
-        (v * 2 ^ t ⊕ 2 ^ length ks) (q ⊕ 2 ^ length ks) place (stop .1)
+        rw (lifted-snoc t 0 ks v) (rw (zero-add (length ks)) (stand-keep t (lifted t 0 ks) ss S (pass t ss (v * 2 ^ t) .stop) k
+        (v * 2 ^ t ⊕ 2 ^ length ks) (q ⊕ 2 ^ length ks) stops (stop .1)
         (top-⊕ (t + k) q (2 ^ length ks) (stop .0) (pow-lt (omega arith))) (rw both (pass-move t ss (v * 2 ^ t)))))
       where
         q : ℕ
         q = left t ss v
 
         k : ℕ
-        k = length ss - suc (pass t ss (v * 2 ^ t) .place)
+        k = length ss - suc (pass t ss (v * 2 ^ t) .stop)
 
-        place : pass t ss (v * 2 ^ t) .place + suc k ≡ length ss
-        place = omega arith
+        stops : pass t ss (v * 2 ^ t) .stop + suc k ≡ length ss
+        stops = omega arith
 
-        stop : Top (t + k) q × (getD ss (pass t ss (v * 2 ^ t) .place) 0 ≡ 0)
-        stop = pass-stop t ss (S .formed) (v * 2 ^ t) whole k place
+        stop : Top (t + k) q × (getD ss (pass t ss (v * 2 ^ t) .stop) 0 ≡ 0)
+        stop = pass-stop t ss (S .formed) (v * 2 ^ t) whole k stops
 
         both : v * 2 ^ t ⊕ 2 ^ length ks ⊕ (q ⊕ 2 ^ length ks) ≡ v * 2 ^ t ⊕ q
         both = ⊕-four (v * 2 ^ t) (2 ^ length ks) q (2 ^ length ks) ∙ rw (⊕-self (2 ^ length ks)) (⊕-zero (v * 2 ^ t ⊕ q))

@@ -47,7 +47,7 @@ module _ (t d : ℕ) (room : d ≤ t) (rows : List ℕ) (row : ℕ) (b : Below (
   counted : length (s .uses) ≡ length (keptRows rows)
   counted = ap length (R .uses) ∙ length-uses rows ∙ unfold rank in refl
 
-  keeping-right : spans (keptRows rows) row ≡ false → pass t (s .slots) (row * 2 ^ t) .place < length (s .slots)
+  keeping-right : spans (keptRows rows) row ≡ false → pass t (s .slots) (row * 2 ^ t) .stop < length (s .slots)
       → Right t d (rows ++ (row ∷ [])) (keeping (pass t (s .slots) (row * 2 ^ t)) s)
   keeping-right free h =
       unfold keeping in record {
@@ -79,7 +79,7 @@ module _ (t d : ℕ) (room : d ≤ t) (rows : List ℕ) (row : ℕ) (b : Below (
       names = rows-set t (keptRows rows) (s .slots) before (R .slots) row (kept-independent rows) low
 
   -- the two ways of a step
-  pub step-test : ltb (pass t (s .slots) (row * 2 ^ t) .place) (length (s .slots)) ≡ not (spans (keptRows rows) row)
+  pub step-test : ltb (pass t (s .slots) (row * 2 ^ t) .stop) (length (s .slots)) ≡ not (spans (keptRows rows) row)
   step-test = rows-test t (keptRows rows) (s .slots) before (R .slots) row small
 
   pub step-kept : spans (keptRows rows) row ≡ false → step t row s ≡ keeping (pass t (s .slots) (row * 2 ^ t)) s

@@ -2,35 +2,20 @@
 -- N* is one above the largest use left out, or 0; the other way, rows of N* uses or more have more than all others.
 -- Assumes nothing.
 use mathlib.Core.Path.{_≡_, refl, sym, ap, _∙_}
-use Prim.Native.Nat.{ℕ, suc, max, _≤_, _<_}
+use Prim.Native.Nat.{ℕ, suc, _≤_, _<_}
 use native.Mathlib.Omega.{arith}
 use mathlib.Core.Bool.{Bool, true, false, not}
-use mathlib.Core.List.{List, [], _∷_, map, List·Memᴰ, List·Memᴰ·head, List·Memᴰ·tail, List·Memᴰ·not-nil, List·Memᴰ·cases-cons}
-use mathlib.Core.Logic.{⊎-elim, _↔_}
+use mathlib.Core.List.{List, [], _∷_, map, List·Memᴰ, List·Memᴰ·head, List·Memᴰ·tail}
+use mathlib.Core.Logic.{_↔_}
 use lib.Dec.{leb}
 use lib.ListN.{length, length-map}
 use borrow.Author.Tests.{le-leb, lt-leb, leb-true, leb-false, not-true}
-use Rattle.space.specs.Lists.{select, marked, count}
-use Rattle.space.proofs.Lists.{map-both}
+use Rattle.space.specs.Lists.{select, marked, count, above}
+use Rattle.space.proofs.Lists.{map-both, count-marked, above-each, above-least}
 use Rattle.reading.specs.Reading.{uses, picked, tie}
 use Rattle.reading.specs.Properties.{Most}
 use Rattle.reading.proofs.Pick.{select-true, pick-exactly, pick-only}
 use Rattle.basis.specs.Algorithm2.{Parting}
-
--- one above the largest
-unfoldable past : List ℕ → ℕ
-past [] = 0
-past (y ∷ ys) = max (suc y) (past ys)
-
-past-above : (ys : List ℕ) (y : ℕ) → List·Memᴰ y ys → y < past ys
-unfolding past
-past-above [] y m = absurd (List·Memᴰ·not-nil m)
-past-above (x ∷ ys) y m = ⊎-elim (λ e. omega arith) (λ k. omega (arith, past-above ys y k)) (List·Memᴰ·cases-cons m)
-
-past-least : (ys : List ℕ) (x : ℕ) → ((y : ℕ) → List·Memᴰ y ys → y < x) → past ys ≤ x
-unfolding past
-past-least [] x h = omega arith
-past-least (y ∷ ys) x h = omega (arith, h y (List·Memᴰ·head refl), past-least ys x (λ z m. h z (List·Memᴰ·tail m)))
 
 -- a choice by a bound
 count-choice : (k : ℕ) (us : List ℕ) (bs : List Bool) → length bs ≡ length us → ((x : ℕ) → List·Memᴰ x (select bs us) → k ≤ x)
@@ -44,23 +29,18 @@ count-choice k (u ∷ us) (true ∷ bs) e h g =
 count-choice k (u ∷ us) (false ∷ bs) e h g =
     rw (lt-leb k u (g u (List·Memᴰ·head refl))) (count-choice k us bs (omega arith) h (λ y m. g y (List·Memᴰ·tail m)))
 
-marked-count : (f : ℕ → Bool) (us : List ℕ) → marked (map f us) ≡ count f us
-unfolding marked count
-marked-count f [] = refl
-marked-count f (u ∷ us) = rw (marked-count f us)
-
 -- where n are picked, one above the largest use left out is such a number
-most-parting : (n : ℕ) (us : List ℕ) (pick : List Bool) → Most n us pick → Parting n us (past (select (map not pick) us))
+most-parting : (n : ℕ) (us : List ℕ) (pick : List Bool) → Most n us pick → Parting n us (above (select (map not pick) us))
 most-parting n us pick c =
-    count-choice (past (select (map not pick) us)) us pick (c .size) (λ x m. past-least (select (map not pick) us) x (λ y k. c .above x y m k))
-    (λ y k. past-above (select (map not pick) us) y k) ∙ c .number
+    count-choice (above (select (map not pick) us)) us pick (c .size) (λ x m. above-least (select (map not pick) us) x (λ y k. c .above x y m k))
+    (λ y k. above-each (select (map not pick) us) y k) ∙ c .number
 
 -- and the rows of as many uses or more are the pick
 parting-most : (n : ℕ) (us : List ℕ) (least : ℕ) → Parting n us least → Most n us (map (leb least) us)
 parting-most n us least e =
     record {
       size = length-map us (leb least);
-      number = marked-count (leb least) us ∙ e;
+      number = count-marked (leb least) us ∙ e;
       above = λ x y m k. omega (
         arith,
         leb-true least x (select-true (leb least) us x m),
@@ -71,7 +51,7 @@ parting-most n us least e =
 pub parting-exactly : (n : ℕ) (rows : List ℕ) → (tie n rows ≡ false) ↔ ((least : ℕ) × Parting n (uses rows) least)
 parting-exactly n rows = (
   λ e. let c : (pick : List Bool) × Most n (uses rows) pick = pick-exactly n rows .0 e in
-      (past (select (map not (c .0)) (uses rows)), most-parting n (uses rows) (c .0) (c .1)),
+      (above (select (map not (c .0)) (uses rows)), most-parting n (uses rows) (c .0) (c .1)),
   λ p. pick-exactly n rows .1 (map (leb (p .0)) (uses rows), parting-most n (uses rows) (p .0) (p .1)),
 )
 

@@ -1,5 +1,5 @@
 -- What a pass over slots leaves differs from its start by a sum of slots; and over slots in form, each zero or with its highest digit
--- at its own place, no key is left where the start has the key of a sum of slots.
+-- at its own digit, no key is left where the start has the key of a sum of slots.
 -- Assumes nothing.
 use mathlib.Core.Path.{_≡_, refl, sym, ap, _∙_}
 use Prim.Native.Nat.{ℕ, suc, _+_, _^_, _≤_, _<_}
@@ -19,14 +19,14 @@ use Rattle.basis.proofs.Digits.{Top, digit-top, digit-high, digit-none}
 
 -- the three ways at a slot
 module _ (t s : ℕ) (ss : List ℕ) (w : ℕ) (P : Pass → Type 0) where
-  pub pass-cases : (digit (t + length ss) w ≡ true → digit (t + length ss) s ≡ false → P (record { vector = w; place = 0 }))
+  pub pass-cases : (digit (t + length ss) w ≡ true → digit (t + length ss) s ≡ false → P (record { vector = w; stop = 0 }))
       → (digit (t + length ss) w ≡ true → digit (t + length ss) s ≡ true → P (later (pass t ss (w ⊕ s))))
       → (digit (t + length ss) w ≡ false → P (later (pass t ss w))) → P (pass t (s ∷ ss) w)
   unfolding pass
   pass-cases stop add skip = go (digit (t + length ss) w) refl (digit (t + length ss) s) refl
     where
       go : (b : Bool) → digit (t + length ss) w ≡ b → (d : Bool) → digit (t + length ss) s ≡ d
-          → P (cond b (cond d (later (pass t ss (w ⊕ s))) (record { vector = w; place = 0 })) (later (pass t ss w)))
+          → P (cond b (cond d (later (pass t ss (w ⊕ s))) (record { vector = w; stop = 0 })) (later (pass t ss w)))
       go true p true q = add p q
       go true p false q = stop p q
       go false p d q = skip p
@@ -41,12 +41,12 @@ pass-move t (s ∷ ss) w =
     (λ p q. spans-right s ss (w ⊕ pass t ss (w ⊕ s) .vector) (rw (⊕-swap w (pass t ss (w ⊕ s) .vector) s) (pass-move t ss (w ⊕ s))))
     (λ p. spans-left s ss (w ⊕ pass t ss w .vector) (pass-move t ss w))
 
-pub pass-place : (t : ℕ) (ss : List ℕ) (w : ℕ) → pass t ss w .place ≤ length ss
+pub pass-stop-le : (t : ℕ) (ss : List ℕ) (w : ℕ) → pass t ss w .stop ≤ length ss
 unfolding pass later
-pass-place t [] w = omega arith
-pass-place t (s ∷ ss) w =
-    pass-cases t s ss w (λ p. p .place ≤ suc (length ss)) (λ p q. omega arith)
-    (λ p q. omega (arith, pass-place t ss (w ⊕ s))) (λ p. omega (arith, pass-place t ss w))
+pass-stop-le t [] w = omega arith
+pass-stop-le t (s ∷ ss) w =
+    pass-cases t s ss w (λ p. p .stop ≤ suc (length ss)) (λ p q. omega arith)
+    (λ p q. omega (arith, pass-stop-le t ss (w ⊕ s))) (λ p. omega (arith, pass-stop-le t ss w))
 
 -- ---- slots in form
 

@@ -41,21 +41,21 @@ module _ (l : ℕ) (ps ss : List ℕ) (S : Stand (8 * l) ps ss) where
 
   module _ (row : ℕ) (small : row < 2 ^ (8 * l + length ss)) where
     -- the pass stops exactly where it is none
-    pub solve-test : ltb (pass (8 * l) ss row .place) (length ss) ≡ not (spans (map (constraint l) ps) (constraint l row))
+    pub solve-test : ltb (pass (8 * l) ss row .stop) (length ss) ≡ not (spans (map (constraint l) ps) (constraint l row))
     solve-test = pass-test (8 * l) ss (S .formed) row small ∙ ap not (solve-low row)
 
-    pub solve-keep : pass (8 * l) ss row .place < length ss → Stand (8 * l) (ps ++ (row ∷ [])) (set ss (pass (8 * l) ss row .place) (pass (8 * l) ss row .vector))
+    pub solve-keep : pass (8 * l) ss row .stop < length ss → Stand (8 * l) (ps ++ (row ∷ [])) (set ss (pass (8 * l) ss row .stop) (pass (8 * l) ss row .vector))
     solve-keep h =
-        stand-keep (8 * l) ps ss S (pass (8 * l) ss row .place) k row (pass (8 * l) ss row .vector) place (stop .1) (stop .0) (pass-move (8 * l) ss row)
+        stand-keep (8 * l) ps ss S (pass (8 * l) ss row .stop) k row (pass (8 * l) ss row .vector) stops (stop .1) (stop .0) (pass-move (8 * l) ss row)
       where
         k : ℕ
-        k = length ss - suc (pass (8 * l) ss row .place)
+        k = length ss - suc (pass (8 * l) ss row .stop)
 
-        place : pass (8 * l) ss row .place + suc k ≡ length ss
-        place = omega arith
+        stops : pass (8 * l) ss row .stop + suc k ≡ length ss
+        stops = omega arith
 
-        stop : Top (8 * l + k) (pass (8 * l) ss row .vector) × (getD ss (pass (8 * l) ss row .place) 0 ≡ 0)
-        stop = pass-stop (8 * l) ss (S .formed) row small k place
+        stop : Top (8 * l + k) (pass (8 * l) ss row .vector) × (getD ss (pass (8 * l) ss row .stop) 0 ≡ 0)
+        stop = pass-stop (8 * l) ss (S .formed) row small k stops
 
   pub solve-symbol : independent (map (constraint l) ps) ≡ true → (k : ℕ) → pass (8 * l) ss (2 ^ k * 2 ^ (8 * l)) .vector < 2 ^ (8 * l)
       → pass (8 * l) ss (2 ^ k * 2 ^ (8 * l)) .vector ≡ symbol l ps k

@@ -14,7 +14,7 @@ use borrow.Author.Tests.{lt-ltb, le-ltb}
 use lib.Dec.{ltb}
 use Rattle.space.specs.Space.{_⊕_}
 use Rattle.basis.specs.Algorithm2.{digit, later, pass}
-use Rattle.basis.proofs.Passes.{Slot, Formed, slot-empty, pass-cases, pass-place}
+use Rattle.basis.proofs.Passes.{Slot, Formed, slot-empty, pass-cases, pass-stop-le}
 use Rattle.basis.proofs.Digits.{Top, tops-⊕, digit-low, digit-high, digit-none}
 
 slot-top : (k s : ℕ) → Slot k s → digit k s ≡ true → Top k s
@@ -36,35 +36,35 @@ module _ (t s : ℕ) (ss : List ℕ) (f : Slot (t + length ss) s) (w : ℕ) (h :
 
 -- at an empty slot, whose digit is the highest that is left; or past the last, and no key is left
 pub pass-stop : (t : ℕ) (ss : List ℕ) → Formed t ss → (w : ℕ) → w < 2 ^ (t + length ss)
-    → (k : ℕ) → pass t ss w .place + suc k ≡ length ss → Top (t + k) (pass t ss w .vector) × (getD ss (pass t ss w .place) 0 ≡ 0)
+    → (k : ℕ) → pass t ss w .stop + suc k ≡ length ss → Top (t + k) (pass t ss w .vector) × (getD ss (pass t ss w .stop) 0 ≡ 0)
 unfolding pass later Formed
 pass-stop t [] f w h = λ k e. absurd (omega arith)
 pass-stop t (s ∷ ss) f w h =
-    pass-cases t s ss w (λ p. (k : ℕ) → p .place + suc k ≡ suc (length ss) → Top (t + k) (p .vector) × (getD (s ∷ ss) (p .place) 0 ≡ 0))
+    pass-cases t s ss w (λ p. (k : ℕ) → p .stop + suc k ≡ suc (length ss) → Top (t + k) (p .vector) × (getD (s ∷ ss) (p .stop) 0 ≡ 0))
     (λ p q k e. let n : length ss ≡ k = omega arith in
     (rw n at (set-top t s ss (f .0) w h p), slot-empty (t + length ss) s (f .0) q))
     (λ p q k e. pass-stop t ss (f .1) (w ⊕ s) (added-lt t s ss (f .0) w h p q) k (omega arith))
     (λ p k e. pass-stop t ss (f .1) w (skipped-lt t s ss (f .0) w h p) k (omega arith))
 
-pub pass-end : (t : ℕ) (ss : List ℕ) → Formed t ss → (w : ℕ) → w < 2 ^ (t + length ss) → pass t ss w .place ≡ length ss → pass t ss w .vector < 2 ^ t
+pub pass-end : (t : ℕ) (ss : List ℕ) → Formed t ss → (w : ℕ) → w < 2 ^ (t + length ss) → pass t ss w .stop ≡ length ss → pass t ss w .vector < 2 ^ t
 unfolding pass later Formed
 pass-end t [] f w h = λ e. rw (add-zero t) at h
 pass-end t (s ∷ ss) f w h =
-    pass-cases t s ss w (λ p. p .place ≡ suc (length ss) → p .vector < 2 ^ t)
+    pass-cases t s ss w (λ p. p .stop ≡ suc (length ss) → p .vector < 2 ^ t)
     (λ p q e. absurd (omega arith))
     (λ p q e. pass-end t ss (f .1) (w ⊕ s) (added-lt t s ss (f .0) w h p q) (omega arith))
     (λ p e. pass-end t ss (f .1) w (skipped-lt t s ss (f .0) w h p) (omega arith))
 
 -- so it goes by all slots exactly where no key is left
 pub pass-test : (t : ℕ) (ss : List ℕ) → Formed t ss → (w : ℕ) → w < 2 ^ (t + length ss)
-    → ltb (pass t ss w .place) (length ss) ≡ not (ltb (pass t ss w .vector) (2 ^ t))
-pass-test t ss f w h = go (decLt (pass t ss w .place) (length ss))
+    → ltb (pass t ss w .stop) (length ss) ≡ not (ltb (pass t ss w .vector) (2 ^ t))
+pass-test t ss f w h = go (decLt (pass t ss w .stop) (length ss))
   where
-    go : Dec (pass t ss w .place < length ss) → ltb (pass t ss w .place) (length ss) ≡ not (ltb (pass t ss w .vector) (2 ^ t))
+    go : Dec (pass t ss w .stop < length ss) → ltb (pass t ss w .stop) (length ss) ≡ not (ltb (pass t ss w .vector) (2 ^ t))
     go (yes l) =
-        let k : ℕ = length ss - suc (pass t ss w .place) in
+        let k : ℕ = length ss - suc (pass t ss w .stop) in
         let top : Top (t + k) (pass t ss w .vector) = pass-stop t ss f w h k (omega arith) .0 in
-        rw (lt-ltb (pass t ss w .place) (length ss) l) (rw (le-ltb (pass t ss w .vector) (2 ^ t) (le-trans (pow-mono (le-add-right t k)) (top .low))))
+        rw (lt-ltb (pass t ss w .stop) (length ss) l) (rw (le-ltb (pass t ss w .vector) (2 ^ t) (le-trans (pow-mono (le-add-right t k)) (top .low))))
     go (no l) =
-        rw (le-ltb (pass t ss w .place) (length ss) (omega arith))
-        (rw (lt-ltb (pass t ss w .vector) (2 ^ t) (pass-end t ss f w h (omega (arith, pass-place t ss w)))))
+        rw (le-ltb (pass t ss w .stop) (length ss) (omega arith))
+        (rw (lt-ltb (pass t ss w .vector) (2 ^ t) (pass-end t ss f w h (omega (arith, pass-stop-le t ss w)))))

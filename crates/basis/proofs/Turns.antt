@@ -18,7 +18,7 @@ module _ (t : ℕ) (ss : List ℕ) (u : ℕ) (h : u < length ss) (w : ℕ) where
   turn-skip e = rw (drop-cons ss u 0 h) (rw rest (rw e))
 
   pub turn-stop : digit (t + (length ss - suc u)) w ≡ true → digit (t + (length ss - suc u)) (getD ss u 0) ≡ false
-      → pass t (drop u ss) w ≡ record { vector = w; place = 0 }
+      → pass t (drop u ss) w ≡ record { vector = w; stop = 0 }
   unfolding pass
   turn-stop e d = rw (drop-cons ss u 0 h) (rw rest (rw e (rw d)))
 
@@ -28,6 +28,6 @@ module _ (t : ℕ) (ss : List ℕ) (u : ℕ) (h : u < length ss) (w : ℕ) where
   turn-add e d = rw (drop-cons ss u 0 h) (rw rest (rw e (rw d)))
 
 -- past the last slot
-pub turn-end : (t : ℕ) (ss : List ℕ) (w : ℕ) → pass t (drop (length ss) ss) w ≡ record { vector = w; place = 0 }
+pub turn-end : (t : ℕ) (ss : List ℕ) (w : ℕ) → pass t (drop (length ss) ss) w ≡ record { vector = w; stop = 0 }
 unfolding pass
 turn-end t ss w = rw (drop-length ss)

@@ -1,5 +1,5 @@
 -- Algorithm 2 of document 000 (He and Cai, "straightforward implementation"), lines 1 to 24 and 26, over numbers. What differs:
--- places and rows count from 0; b_t and q_t are one number, b_t above its t lowest digits and q_t in them, where the digit worth
+-- slots and rows count from 0; b_t and q_t are one number, b_t above its t lowest digits and q_t in them, where the digit worth
 -- 2^j names kept place j; a slot that is NULL is 0; no row is swapped (line 14), it is noted as kept at its arrival; and digits that
 -- no kept place has yet stand for the zeros that line 18 appends. Slot i of d stands for the digit d - 1 - i of b: "the leftmost" is slot 0.
 use Prim.Native.Nat.{ℕ, zero, suc, _+_, _*_, _/_, _%_, _^_}
@@ -21,21 +21,21 @@ unfoldable pub digits : ℕ → ℕ → List Bool
 digits zero q = []
 digits (suc n) q = eqb (q % 2) 1 ∷ digits n (q / 2)
 
--- What is left of a vector after a pass, and the place of the slot that it stopped at: past the last if it went by all.
+-- What is left of a vector after a pass, and the slot where it stops: past the last if it went by all.
 pub record Pass : Type 0 where
   pub vector : ℕ
-  pub place : ℕ
+  pub stop : ℕ
 
 unfoldable pub later : Pass → Pass
-later p = record { vector = p .vector; place = suc (p .place) }
+later p = record { vector = p .vector; stop = suc (p .stop) }
 
 -- Lines 6 to 11: at each digit of b that is set (7), the slot is added if it is not empty (8 to 10), and the pass goes on behind it;
 -- at an empty slot it stops (11).
 unfoldable pub pass : ℕ → List ℕ → ℕ → Pass
-pass t [] w = record { vector = w; place = 0 }
+pass t [] w = record { vector = w; stop = 0 }
 pass t (s ∷ ss) w =
     cond (digit (t + length ss) w)
-    (cond (digit (t + length ss) s) (later (pass t ss (w ⊕ s))) (record { vector = w; place = 0 }))
+    (cond (digit (t + length ss) s) (later (pass t ss (w ⊕ s))) (record { vector = w; stop = 0 }))
     (later (pass t ss w))
 
 -- What the algorithm holds: the slots; the uses N_j by kept place; and by arrival whether the row was kept.
@@ -52,7 +52,7 @@ start d = record { slots = replicate d 0; uses = []; kept = [] }
 unfoldable pub keeping : Pass → Working → Working
 keeping p s =
     record {
-      slots = set (s .slots) (p .place) (p .vector ⊕ 2 ^ length (s .uses));
+      slots = set (s .slots) (p .stop) (p .vector ⊕ 2 ^ length (s .uses));
       uses = s .uses ++ (0 ∷ []);
       kept = s .kept ++ (true ∷ []);
     }
@@ -69,7 +69,7 @@ counting p s =
 -- Lines 4 to 23, for one row.
 unfoldable pub step : ℕ → ℕ → Working → Working
 step t row s =
-    cond (ltb (pass t (s .slots) (row * 2 ^ t) .place) (length (s .slots)))
+    cond (ltb (pass t (s .slots) (row * 2 ^ t) .stop) (length (s .slots)))
     (keeping (pass t (s .slots) (row * 2 ^ t)) s)
     (counting (pass t (s .slots) (row * 2 ^ t)) s)
 
@@ -81,6 +81,6 @@ steps t (row ∷ rows) s = steps t rows (step t row s)
 unfoldable pub algorithm2 : ℕ → ℕ → List ℕ → Working
 algorithm2 t d rows = steps t rows (start d)
 
--- Line 26: "there is an N* with exactly n kept rows of N* uses or more".
+-- Line 26: exactly n kept rows have N* uses or more.
 abbrev pub Parting : ℕ → List ℕ → ℕ → Type 0
 Parting n us least = count (leb least) us ≡ n

@@ -5,13 +5,13 @@ use Prim.Native.Nat.{ℕ, suc, _+_, _≤_, _<_}
 use native.Mathlib.Numerals.{add-one}
 use native.Mathlib.Omega.{arith}
 use mathlib.Core.Bool.{Bool, true, false, cond, false≢true}
-use mathlib.Core.List.{List, [], _∷_, map}
+use mathlib.Core.List.{List, [], _∷_}
 use lib.Dec.{leb}
 use lib.ListN.{length, take, getD}
 use lib.Seq.{take-suc, take-all}
 use borrow.Author.Tests.{lt-leb}
 use mir.Val.{boolByte}
-use Rattle.space.specs.Lists.{count, marked, Below}
+use Rattle.space.specs.Lists.{count, Below}
 use Rattle.space.proofs.Lists.{count-snoc}
 
 -- what passes one test passes another
@@ -26,24 +26,6 @@ count-mono p q f (x ∷ xs) = go (p x) (q x) (f x) (count-mono p q f xs)
     go true false h k = absurd (false≢true (h refl))
     go false true h k = omega arith
     go false false h k = k
-
-pub count-marked : (p : ℕ → Bool) (xs : List ℕ) → marked (map p xs) ≡ count p xs
-unfolding count marked
-count-marked p [] = refl
-count-marked p (x ∷ xs) = rw (count-marked p xs)
-
--- tests of which one passes no more than the other, and as many
-pub count-agree : (p q : ℕ → Bool) → ((x : ℕ) → p x ≡ true → q x ≡ true) → (xs : List ℕ) → count q xs ≤ count p xs → map p xs ≡ map q xs
-unfolding count
-count-agree p q f [] h = refl
-count-agree p q f (x ∷ xs) h = go (p x) (q x) (f x) h (count-agree p q f xs)
-  where
-    go : (a b : Bool) → (a ≡ true → b ≡ true) → cond b (suc (count q xs)) (count q xs) ≤ cond a (suc (count p xs)) (count p xs)
-        → (count q xs ≤ count p xs → map p xs ≡ map q xs) → a ∷ map p xs ≡ b ∷ map q xs
-    go true true i h ih = ap (λ t. true ∷ t) (ih (omega arith))
-    go true false i h ih = absurd (false≢true (i refl))
-    go false true i h ih = absurd (omega (arith, count-mono p q f xs))
-    go false false i h ih = ap (λ t. false ∷ t) (ih h)
 
 -- none reaches what all are below
 pub count-beyond : (t : ℕ) (xs : List ℕ) → Below t xs → count (leb t) xs ≡ 0

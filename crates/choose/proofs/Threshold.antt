@@ -1,8 +1,8 @@
 -- The fewest uses that a picked row can have: the smallest number that at most n of the uses reach, so that the picked are those
--- which reach it; and document 000's N* exists exactly when n are picked.
+-- which reach it. basis/proofs/Parting speaks of document 000's N*.
 -- Assumes nothing.
 use mathlib.Core.Path.{_≡_, refl, sym, ap, fun-ext, _∙_}
-use Prim.Native.Nat.{ℕ, suc, _+_, _≤_}
+use Prim.Native.Nat.{ℕ, suc, _+_, _≤_, _<_}
 use native.Mathlib.Nat.{le-refl}
 use native.Mathlib.Decide.{decLe}
 use native.Mathlib.Omega.{arith}
@@ -10,11 +10,13 @@ use mathlib.Core.Bool.{Bool, true, false, cond, not, true≢false}
 use mathlib.Core.List.{List, [], _∷_, map}
 use mathlib.Core.Logic.{_⊎_, inl, inr, _↔_}
 use lib.Dec.{leb}
-use borrow.Author.Tests.{le-leb, lt-leb, leb-true}
-use Rattle.space.specs.Lists.{select, marked, count, Below}
+use borrow.Author.Tests.{le-leb, lt-leb, leb-true, not-true}
+use Rattle.space.specs.Lists.{select, marked, count, above, Below}
+use Rattle.space.proofs.Lists.{map-both, count-marked, above-least}
 use Rattle.reading.specs.Reading.{picks}
-use Rattle.choose.specs.Pick.{above, least}
-use Rattle.choose.proofs.Counts.{count-mono, count-agree, count-marked, count-beyond}
+use Rattle.reading.proofs.Pick.{select-true}
+use Rattle.choose.specs.Pick.{least}
+use Rattle.choose.proofs.Counts.{count-mono, count-beyond}
 
 -- the more uses, the fewer have them
 count-falls : (t u : ℕ) → t ≤ u → (us : List ℕ) → count (leb u) us ≤ count (leb t) us
@@ -28,14 +30,12 @@ outside f us = select (map not (map f us)) us
 module _ (f : ℕ → Bool) (t : ℕ) where
   -- where all from t on pass, what fails lies below
   above-most : ((u : ℕ) → t ≤ u → f u ≡ true) → (us : List ℕ) → above (outside f us) ≤ t
-  unfolding above select
-  above-most h [] = omega arith
-  above-most h (u ∷ us) = go (f u) refl (decLe t u) (above-most h us)
+  above-most h us =
+      above-least (outside f us) t (λ u m. go u (not-true (f u) (select-true (λ v. not (f v)) us u (rw (map-both not f _ (λ v. refl) us) at m))) (decLe t u))
     where
-      go : (b : Bool) → f u ≡ b → Dec (t ≤ u) → above (outside f us) ≤ t → above (select (not b ∷ map not (map f us)) (u ∷ us)) ≤ t
-      go true e d k = k
-      go false e (yes l) k = absurd (true≢false (sym (h u l) ∙ e))
-      go false e (no l) k = omega arith
+      go : (u : ℕ) → f u ≡ false → Dec (t ≤ u) → u < t
+      go u e (yes l) = absurd (true≢false (sym (h u l) ∙ e))
+      go u e (no l) = omega arith
 
   above-tail : (u : ℕ) (us : List ℕ) → above (outside f (u ∷ us)) ≤ t → (above (outside f us) ≤ t) × (t ≤ u → f u ≡ true)
   unfolding above select
@@ -105,14 +105,3 @@ module _ (n : ℕ) (us : List ℕ) where
       go (yes l) = rw (le-leb (count (leb (low + half)) us) n l) (from, least-exactly (low + half) .0 l)
       go (no l) = let k : ¬ (least n us ≤ low + half) = λ m. l (least-exactly (low + half) .1 m) in
           rw (lt-leb (count (leb (low + half)) us) n (omega arith)) (omega arith, omega arith)
-
-  -- Document 000, Algorithm 2, line 26: "if ∃ N* ≥ 0 with |{i ∈ [r] : N_i ≥ N*}| = n", then "{i ∈ [r] : N_i ≥ N*}" are the picked,
-  pub star-picks : (t : ℕ) → count (leb t) us ≡ n → picks n us ≡ map (leb t) us
-  star-picks t e =
-      let l : least n us ≤ t = least-exactly t .0 (omega arith) in
-      picks-least ∙ sym (count-agree (leb t) (leb (least n us)) (λ u h. le-leb (least n us) u (omega (arith, leb-true t u h))) us
-      (omega (arith, least-exactly (least n us) .1 (le-refl (least n us)))))
-
-  -- and exactly then there are n of them
-  pub star-exactly : ((t : ℕ) × (count (leb t) us ≡ n)) ↔ (marked (picks n us) ≡ n)
-  star-exactly = (λ s. ap marked (star-picks (s .0) (s .1)) ∙ count-marked (leb (s .0)) us ∙ s .1, λ e. (least n us, sym marked-least ∙ e))

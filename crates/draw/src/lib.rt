@@ -1,6 +1,6 @@
 // Draws a constraint from a seed, by Bob Jenkins's small noncryptographic generator, 32-bit form.
 ghost use mathlib.Core.Path.{_≡_};
-ghost use Prim.Native.Nat.{_<_, _≤_, _%_, _^_};
+ghost use Prim.Native.Nat.{_<_, _≤_};
 ghost use Rattle.draw.specs.Draw as spec;
 
 // The answer of a draw; specs/Draw.antt gives document 01's number and constraint for each case.
@@ -71,20 +71,11 @@ impl Generator {
     }
 }
 
-// The n lowest bits of a number.
-fn lowest(number: u64, n: u8) -> u64
-    requires { ⌜ (1 ≤ n) × (n ≤ 64) ⌝ }
-    ensures { λ r. ⌜ r ≡ number % 2 ^ n ⌝ }
-{
-    let gone = 64 - n;
-    (number << gone) >> gone
-}
-
 fn constraint(n: u8, seed: u32) -> u64
     requires { ⌜ (1 ≤ n) × (n ≤ 64) ⌝ }
     ensures { λ r. ⌜ r ≡ spec.constraint n seed ⌝ }
 {
-    let low = lowest(Generator::settled(seed).two_draws(), n);
+    let low = bits::low(Generator::settled(seed).two_draws(), n as usize);
     if low == 0 {
         1u64 << (seed % (n as u32))
     } else {

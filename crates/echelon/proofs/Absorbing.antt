@@ -1,4 +1,4 @@
--- What fits `absorb`, and its answer and state each way: not kept, kept, or no place left.
+-- What fits `absorb`, and its answer and state each way: not kept, kept, or no kept place left.
 -- Assumes nothing.
 use mathlib.Core.Path.{_≡_}
 use mathlib.Core.List.{List}
@@ -10,7 +10,7 @@ use borrow.Author.Tests.{le-leb, lt-leb, leb-true, lt-ltb, le-ltb, ltb-true}
 use Rattle.echelon.specs.declared.Absorbed.the-variants.{Kept, Other, Misfit}
 use Rattle.octets.specs.Octets.{bytes}
 use Rattle.basis.specs.Algorithm2.{Pass}
-use Rattle.echelon.specs.State.{mostKept, vectorBytes, stateBytes, gives, keptState, countedState, taken, takes, absorption, passIn}
+use Rattle.echelon.specs.State.{mostKept, vectorBytes, stateBytes, absorbedAs, keptState, countedState, taken, takes, absorption, passIn}
 use Rattle.space.proofs.Both.{both}
 
 -- ---- what fits
@@ -19,7 +19,7 @@ pub record Takes (key m r room : ℕ) : Type 0 where
   pub low : 9 ≤ key
   pub high : key ≤ 40
   pub arrival : m < 512
-  pub place : r ≤ mostKept
+  pub rank : r ≤ mostKept
   pub whole : stateBytes ≤ room
 
 pub takes-so : (key m r room : ℕ) → takes key m r room ≡ true → Takes key m r room
@@ -33,14 +33,14 @@ takes-so key m r room e =
       low = leb-true 9 key (b .0);
       high = leb-true key 40 (b .1);
       arrival = ltb-true m 512 (f .0);
-      place = leb-true r mostKept (f .1);
+      rank = leb-true r mostKept (f .1);
       whole = leb-true stateBytes room (d .1);
     }
 
 pub takes-when : (key m r room : ℕ) → Takes key m r room → takes key m r room ≡ true
 unfolding takes
 takes-when key m r room T =
-    rw (le-leb 9 key (T .low)) (rw (le-leb key 40 (T .high)) (rw (lt-ltb m 512 (T .arrival)) (rw (le-leb r mostKept (T .place)) (le-leb stateBytes room (T .whole)))))
+    rw (le-leb 9 key (T .low)) (rw (le-leb key 40 (T .high)) (rw (lt-ltb m 512 (T .arrival)) (rw (le-leb r mostKept (T .rank)) (le-leb stateBytes room (T .whole)))))
 
 -- the tests of the code, in its order
 module _ (key m r room : ℕ) where
@@ -67,23 +67,23 @@ module _ (key m r room : ℕ) where
 -- ---- the outcome
 
 module _ (key : ℕ) (p : Pass) (m r : ℕ) (state : List ℕ) where
-  pub taken-other : 8 * key ≤ p .place → taken key p m r state ≡ gives Other (countedState (p .vector) m r state)
+  pub taken-other : 8 * key ≤ p .stop → taken key p m r state ≡ absorbedAs Other (countedState (p .vector) m r state)
   unfolding taken
-  taken-other h = rw (le-ltb (p .place) (8 * key) h)
+  taken-other h = rw (le-ltb (p .stop) (8 * key) h)
 
-  pub taken-kept : p .place < 8 * key → r < mostKept → taken key p m r state ≡ gives Kept (keptState (p .place) (bytes vectorBytes (p .vector)) m r state)
+  pub taken-kept : p .stop < 8 * key → r < mostKept → taken key p m r state ≡ absorbedAs Kept (keptState (p .stop) (bytes vectorBytes (p .vector)) m r state)
   unfolding taken
-  taken-kept h l = rw (lt-ltb (p .place) (8 * key) h) (rw (lt-ltb r mostKept l))
+  taken-kept h l = rw (lt-ltb (p .stop) (8 * key) h) (rw (lt-ltb r mostKept l))
 
-  pub taken-full : p .place < 8 * key → mostKept ≤ r → taken key p m r state ≡ gives Misfit state
+  pub taken-full : p .stop < 8 * key → mostKept ≤ r → taken key p m r state ≡ absorbedAs Misfit state
   unfolding taken
-  taken-full h l = rw (lt-ltb (p .place) (8 * key) h) (rw (le-ltb r mostKept l))
+  taken-full h l = rw (lt-ltb (p .stop) (8 * key) h) (rw (le-ltb r mostKept l))
 
 module _ (key row m r : ℕ) (state : List ℕ) where
   pub absorbed-so : takes key m r (length state) ≡ true → taken key (passIn key row state) m r state ≡ absorption key row m r state
   unfolding absorption
   absorbed-so e = rw e
 
-  pub absorbed-not : takes key m r (length state) ≡ false → gives Misfit state ≡ absorption key row m r state
+  pub absorbed-not : takes key m r (length state) ≡ false → absorbedAs Misfit state ≡ absorption key row m r state
   unfolding absorption
   absorbed-not e = rw e

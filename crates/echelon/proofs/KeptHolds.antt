@@ -1,4 +1,4 @@
--- A row that is no sum of kept rows: it is kept at the next place, and the state holds it.
+-- A row that is no sum of kept rows: it is kept at the next kept place, and the state holds it.
 -- Assumes nothing.
 use mathlib.Core.Path.{_≡_, refl, sym, ap, ap₂, _∙_}
 use mathlib.Core.Bool.{true, false, not}
@@ -33,8 +33,8 @@ module _ {l : ℕ} {rows : List ℕ} {row : ℕ} {state : List ℕ} (O : Offer l
       step-kept (tailDigits (key O)) (8 * key O) (wide O) rows row (all-below O) (before O) (right O) e
       ∙ ap (λ (q : Pass). keeping q (before O)) (pass-is O)
 
-  pub stops : p O .place < 8 * key O
-  stops = ltb-true (p O .place) (8 * key O) (test O ∙ ap not e)
+  pub stops : p O .stop < 8 * key O
+  stops = ltb-true (p O .stop) (8 * key O) (test O ∙ ap not e)
 
   one-more : rank (rows ++ (row ∷ [])) ≡ suc (rank rows)
   one-more = rank-kept rows row e
@@ -60,7 +60,7 @@ module _ {l : ℕ} {rows : List ℕ} {row : ℕ} {state : List ℕ} (O : Offer l
 
   -- ---- the four parts laid
 
-  first-slots : p O .place < mostKept
+  first-slots : p O .stop < mostKept
   first-slots = omega (arith, sizes, stops, narrow O)
 
   abbrev given : List ℕ
@@ -88,22 +88,22 @@ module _ {l : ℕ} {rows : List ℕ} {row : ℕ} {state : List ℕ} (O : Offer l
   unused-long = length-lay (usesAt + 2 * rank rows) (bytes 2 0) given unused-fits ∙ given-long
 
   abbrev headed : List ℕ
-  headed = lay (headAt (p O .place)) (headOf (p O .place) vector) unused
+  headed = lay (headAt (p O .stop)) (headOf (p O .stop) vector) unused
 
-  headed-fits : headAt (p O .place) + length (headOf (p O .place) vector) ≤ length unused
-  headed-fits = omega (arith, length-headOf (p O .place) vector, head-end (p O .place) first-slots, unused-long, O .holds .room)
+  headed-fits : headAt (p O .stop) + length (headOf (p O .stop) vector) ≤ length unused
+  headed-fits = omega (arith, length-headOf (p O .stop) vector, head-end (p O .stop) first-slots, unused-long, O .holds .room)
 
   headed-long : length headed ≡ length state
-  headed-long = length-lay (headAt (p O .place)) (headOf (p O .place) vector) unused headed-fits ∙ unused-long
+  headed-long = length-lay (headAt (p O .stop)) (headOf (p O .stop) vector) unused headed-fits ∙ unused-long
 
   -- a head lies behind all that is held
-  behind : headsAt ≤ headAt (p O .place)
-  behind = head-end (p O .place) first-slots .0
+  behind : headsAt ≤ headAt (p O .stop)
+  behind = head-end (p O .stop) first-slots .0
 
-  slot-below : p O .place * vectorBytes + length (bytes vectorBytes x) ≤ usesAt
-  slot-below = omega (arith, length-bytes vectorBytes x, slot-end (p O .place) first-slots)
+  slot-below : p O .stop * vectorBytes + length (bytes vectorBytes x) ≤ usesAt
+  slot-below = omega (arith, length-bytes vectorBytes x, slot-end (p O .stop) first-slots)
 
-  slot-fits : p O .place * vectorBytes + length (bytes vectorBytes x) ≤ length headed
+  slot-fits : p O .stop * vectorBytes + length (bytes vectorBytes x) ≤ length headed
   slot-fits = omega (arith, slot-below, sizes, headed-long, O .holds .room)
 
   placed : placesOf (kept (rows ++ (row ∷ []))) ≡ placesOf (kept rows) ++ ((rank rows + 1) ∷ [])
@@ -111,32 +111,32 @@ module _ {l : ℕ} {rows : List ℕ} {row : ℕ} {state : List ℕ} (O : Offer l
       ap placesOf (kept-snoc rows row ∙ rw e) ∙ places-snoc 0 (kept rows) true
       ∙ ap (λ (r : ℕ). placesOf (kept rows) ++ (r ∷ [])) (omega (arith, rank-marked rows))
 
-  pub kept-holds : Holds l (rows ++ (row ∷ [])) (keptState (p O .place) vector (length rows) (rank rows) state)
+  pub kept-holds : Holds l (rows ++ (row ∷ [])) (keptState (p O .stop) vector (length rows) (rank rows) state)
   unfolding keptState placedState usesIn placesIn
   kept-holds =
       record {
         some = O .holds .some;
         most = O .holds .most;
-        room = omega (arith, O .holds .room, headed-long, length-lay (p O .place * vectorBytes) (bytes vectorBytes x) headed slot-fits);
+        room = omega (arith, O .holds .room, headed-long, length-lay (p O .stop * vectorBytes) (bytes vectorBytes x) headed slot-fits);
         many = omega (arith, longer O, O .more);
         below = all-below O;
-        slots = slots-more (key O) (p O .place) x headed (narrow O) stops (omega (arith, headed-long, O .holds .room)) x-lt
-            ∙ ap₂ (λ (ss : List ℕ) (y : ℕ). set ss (p O .place) y)
-            (slots-stay (headAt (p O .place)) (headOf (p O .place) vector) unused headed-fits (key O) (narrow O) (omega (arith, behind, sizes))
+        slots = slots-more (key O) (p O .stop) x headed (narrow O) stops (omega (arith, headed-long, O .holds .room)) x-lt
+            ∙ ap₂ (λ (ss : List ℕ) (y : ℕ). set ss (p O .stop) y)
+            (slots-stay (headAt (p O .stop)) (headOf (p O .stop) vector) unused headed-fits (key O) (narrow O) (omega (arith, behind, sizes))
             ∙ slots-stay (usesAt + 2 * rank rows) (bytes 2 0) given unused-fits (key O) (narrow O) (omega arith)
             ∙ slots-stay (placesAt + 2 * length rows) (bytes 2 (rank rows + 1)) state given-fits (key O) (narrow O) (omega (arith, sizes)) ∙ O .holds .slots)
             (x-is ∙ ap (λ (n : ℕ). p O .vector ⊕ 2 ^ n) (sym (ranked O)))
             ∙ sym (slots-next O ∙ ap (λ (s : Working). s .slots) keeping-is ∙ unfold keeping in refl);
-        uses = ap (λ (n : ℕ). numbers 2 n (drop usesAt (lay (p O .place * vectorBytes) (bytes vectorBytes x) headed))) one-more
-            ∙ pairs-behind (p O .place * vectorBytes) (bytes vectorBytes x) headed slot-fits usesAt (suc (rank rows)) slot-below
-            ∙ pairs-before (headAt (p O .place)) (headOf (p O .place) vector) unused headed-fits usesAt (suc (rank rows)) (omega (arith, behind, sizes, place-left))
+        uses = ap (λ (n : ℕ). numbers 2 n (drop usesAt (lay (p O .stop * vectorBytes) (bytes vectorBytes x) headed))) one-more
+            ∙ pairs-behind (p O .stop * vectorBytes) (bytes vectorBytes x) headed slot-fits usesAt (suc (rank rows)) slot-below
+            ∙ pairs-before (headAt (p O .stop)) (headOf (p O .stop) vector) unused headed-fits usesAt (suc (rank rows)) (omega (arith, behind, sizes, place-left))
             ∙ pairs-more usesAt (rank rows) 0 given (lit< tt) (omega (arith, given-long, sizes, place-left, O .holds .room))
             ∙ ap (λ (us : List ℕ). us ++ (0 ∷ [])) (pairs-before (placesAt + 2 * length rows) (bytes 2 (rank rows + 1)) state given-fits usesAt (rank rows) (omega (arith, sizes, place-left))
             ∙ (unfold usesIn in O .holds .uses) ∙ sym (right O .uses))
             ∙ sym (ap (λ (s : Working). s .uses) keeping-is ∙ unfold keeping in refl) ∙ next O .uses;
-        places = ap (λ (n : ℕ). numbers 2 n (drop placesAt (lay (p O .place * vectorBytes) (bytes vectorBytes x) headed))) (longer O)
-            ∙ pairs-behind (p O .place * vectorBytes) (bytes vectorBytes x) headed slot-fits placesAt (suc (length rows)) (omega (arith, slot-below, sizes))
-            ∙ pairs-before (headAt (p O .place)) (headOf (p O .place) vector) unused headed-fits placesAt (suc (length rows)) (omega (arith, behind, sizes, O .more))
+        places = ap (λ (n : ℕ). numbers 2 n (drop placesAt (lay (p O .stop * vectorBytes) (bytes vectorBytes x) headed))) (longer O)
+            ∙ pairs-behind (p O .stop * vectorBytes) (bytes vectorBytes x) headed slot-fits placesAt (suc (length rows)) (omega (arith, slot-below, sizes))
+            ∙ pairs-before (headAt (p O .stop)) (headOf (p O .stop) vector) unused headed-fits placesAt (suc (length rows)) (omega (arith, behind, sizes, O .more))
             ∙ pairs-behind (usesAt + 2 * rank rows) (bytes 2 0) given unused-fits placesAt (suc (length rows)) unused-below
             ∙ pairs-more placesAt (length rows) (rank rows + 1) state (omega (arith, place-left, sizes)) (omega (arith, sizes, O .more, O .holds .room))
             ∙ ap (λ (ps : List ℕ). ps ++ ((rank rows + 1) ∷ [])) (O .holds .places) ∙ sym placed;

@@ -65,7 +65,7 @@ module _ {l : ℕ} {rows : List ℕ} {row : ℕ} {state : List ℕ} (O : Offer l
     low = omega (arith, O .holds .some);
     high = narrow;
     arrival = O .more;
-    place = omega (arith, sizes, O .holds .most, rank-most (8 * key) rows (O .holds .below));
+    rank = omega (arith, sizes, O .holds .most, rank-most (8 * key) rows (O .holds .below));
     whole = O .holds .room;
   }
 
@@ -78,16 +78,16 @@ module _ {l : ℕ} {rows : List ℕ} {row : ℕ} {state : List ℕ} (O : Offer l
   pub slots-next : algorithm2 (tailDigits key) (8 * key) (rows ++ (row ∷ [])) .slots ≡ step (tailDigits key) row before .slots
   slots-next = ap (λ (s : Working). s .slots) (algorithm2-snoc (tailDigits key) (8 * key) rows row)
 
-  pub test : ltb (p .place) (8 * key) ≡ not (spans (keptRows rows) row)
+  pub test : ltb (p .stop) (8 * key) ≡ not (spans (keptRows rows) row)
   test =
-      ap₂ (λ (q : Pass) (n : ℕ). ltb (q .place) n) (sym pass-is) (sym (right .size))
+      ap₂ (λ (q : Pass) (n : ℕ). ltb (q .stop) n) (sym pass-is) (sym (right .size))
       ∙ step-test (tailDigits key) (8 * key) wide rows row all-below before right
 
   -- where it stops, what is left has no more digits than a row and a tail
-  pub vector-lt : p .place < 8 * key → p .vector < 2 ^ (tailDigits key + 8 * key)
+  pub vector-lt : p .stop < 8 * key → p .vector < 2 ^ (tailDigits key + 8 * key)
   vector-lt h =
       let size : length (before .slots) ≡ 8 * key = right .size in
-      let stop : pass (tailDigits key) (before .slots) (row * 2 ^ tailDigits key) .place < length (before .slots) = omega (arith, ap (λ (q : Pass). q .place) pass-is, size, h) in
+      let stop : pass (tailDigits key) (before .slots) (row * 2 ^ tailDigits key) .stop < length (before .slots) = omega (arith, ap (λ (q : Pass). q .stop) pass-is, size, h) in
       let kept-room : length (keptRows rows) ≤ tailDigits key = omega (arith, wide, rank-room (8 * key) rows (O .holds .below)) in
       omega (
         arith,

@@ -69,7 +69,7 @@ module _ {l : ℕ} {rows : List ℕ} {row : ℕ} {state : List ℕ} (O : Offer l
   size = length-flat 2 us ∙ ap (λ (n : ℕ). n * 2) long
 
   room : usesAt + length (flat 2 us) ≤ length state
-  room = omega (arith, size, sizes, fits O .place, O .holds .room)
+  room = omega (arith, size, sizes, fits O .rank, O .holds .room)
 
   laid-long : length laid ≡ length state
   laid-long = length-lay usesAt (flat 2 us) state room
@@ -93,10 +93,10 @@ module _ {l : ℕ} {rows : List ℕ} {row : ℕ} {state : List ℕ} (O : Offer l
             ∙ slots-stay usesAt (flat 2 us) state room (key O) (narrow O) (omega arith) ∙ O .holds .slots
             ∙ sym (slots-next O ∙ ap (λ (s : Working). s .slots) counting-is ∙ unfold counting in refl);
         uses = ap (λ (n : ℕ). numbers 2 n (drop usesAt (lay (placesAt + 2 * length rows) (bytes 2 0) laid))) same-rank
-            ∙ pairs-before (placesAt + 2 * length rows) (bytes 2 0) laid none-fits usesAt (rank rows) (omega (arith, sizes, fits O .place))
-            ∙ uses-anew (rank rows) us state long (rw uses-are (uses-most 65536 (rows ++ (row ∷ [])) (omega (arith, longer O, O .more)))) (fits O .place) (O .holds .room) ∙ uses-are;
+            ∙ pairs-before (placesAt + 2 * length rows) (bytes 2 0) laid none-fits usesAt (rank rows) (omega (arith, sizes, fits O .rank))
+            ∙ uses-anew (rank rows) us state long (rw uses-are (uses-most 65536 (rows ++ (row ∷ [])) (omega (arith, longer O, O .more)))) (fits O .rank) (O .holds .room) ∙ uses-are;
         places = ap (λ (n : ℕ). numbers 2 n (drop placesAt (lay (placesAt + 2 * length rows) (bytes 2 0) laid))) (longer O)
             ∙ pairs-more placesAt (length rows) 0 laid (lit< tt) (omega (arith, laid-long, sizes, O .more, O .holds .room))
-            ∙ ap (λ (ps : List ℕ). ps ++ (0 ∷ [])) (pairs-behind usesAt (flat 2 us) state room placesAt (length rows) (omega (arith, size, sizes, fits O .place)) ∙ O .holds .places)
+            ∙ ap (λ (ps : List ℕ). ps ++ (0 ∷ [])) (pairs-behind usesAt (flat 2 us) state room placesAt (length rows) (omega (arith, size, sizes, fits O .rank)) ∙ O .holds .places)
             ∙ sym placed;
       }

@@ -14,7 +14,7 @@ use Rattle.words.specs.Words.{wordAt}
 use Rattle.words.proofs.Littles.{length-littleBytes}
 use Rattle.reading.specs.Raised.{raised}
 use Rattle.basis.specs.Algorithm2.{digits, pass}
-use Rattle.slots.specs.Reducing.{fits, slotsOf, passOf}
+use Rattle.slots.specs.Reducing.{reducible, slotsOf, passOf}
 use Rattle.echelon.specs.State.{mostKept, vectorBytes, tailDigits, usesAt, placesAt, headsAt, stateBytes, slotsIn, usesIn, passIn, headAt, headOf}
 use Rattle.slots.proofs.Fits.{fits-when}
 use Rattle.octets.proofs.Views.{numbers-take}
@@ -39,7 +39,7 @@ pub slot-end : (t : ℕ) → t < mostKept → t * vectorBytes + vectorBytes ≤ 
 unfolding mostKept
 slot-end t l = omega (arith, mul-le-mul-right vectorBytes l, suc-mul t vectorBytes, sizes)
 
-pub fits-row : (key room : ℕ) → key ≤ 40 → stateBytes ≤ room → fits key vectorBytes room ≡ true
+pub fits-row : (key room : ℕ) → key ≤ 40 → stateBytes ≤ room → reducible key vectorBytes room ≡ true
 fits-row key room h l = fits-when key vectorBytes room (record { inside = omega (arith, sizes); small = omega (arith, sizes); big = omega (arith, slots-end key h, sizes) })
 
 -- a row with an empty tail passes over them

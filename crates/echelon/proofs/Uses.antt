@@ -135,7 +135,7 @@ module _ (j names : ℕ) (before now : List ℕ) (rest : ℕ) (C : Counting j na
     L : Lowest k rest
     L = lowest-place rest some (omega (arith, C .all))
 
-    -- it stands at a place of the uses
+    -- it stands for a kept place
     pub counting-inside : names * 2 ^ j < 2 ^ (length before / 2) → j + k < length before / 2
     counting-inside h =
         let bit : 2 ^ k ≤ names = omega (arith, L .parts, C .all) in
@@ -171,7 +171,7 @@ module _ (j names : ℕ) (before now : List ℕ) (rest : ℕ) (C : Counting j na
 
 -- ---- word after word
 
--- the word whose lowest bit stands at place j
+-- the word whose lowest bit stands for kept place j
 word-at : (tail : List ℕ) (i j : ℕ) → Below 256 tail → 8 * (i + 8) + j ≡ 8 * length tail → wordAt i tail ≡ number tail / 2 ^ j % 2 ^ 64
 word-at tail i j b e =
     let wide : 8 * (length tail - i) ≡ 64 + j = omega arith in
@@ -221,7 +221,7 @@ module _ (r : ℕ) (start tail : List ℕ) (size : length start ≡ 2 * r) (b : 
   pub tally-long : (now : List ℕ) (i j : ℕ) → Tallying r start tail now i j → length now ≡ 2 * r
   tally-long now i j T = ap length (T .holds) ∙ length-usesBy (numbers 2 r start) _ ∙ ap (λ (n : ℕ). 2 * n) (length-numbers 2 r start)
 
-  -- the word's bits name places of the uses
+  -- the word's bits name kept places
   pub tally-fits : (j x : ℕ) → j < r → x < 2 ^ (r - j) → (n : ℕ) → n ≡ 2 * r → x * 2 ^ j < 2 ^ (n / 2)
   tally-fits j x h l n e =
       let half : n / 2 ≡ r = omega arith in

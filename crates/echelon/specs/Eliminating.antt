@@ -45,12 +45,12 @@ unfoldable pub eliminates : ℕ → ℕ → ℕ → Bool
 eliminates l m room = (leb 1 l && leb l 32) && (leb m mostRows && leb stateBytes room)
 
 -- The answer, and the state afterwards.
-pub record Outcome : Type 0 where
+pub record Eliminating : Type 0 where
   pub answer : Eliminated
   pub state : List ℕ
 
 -- Of the whole rows in a list of bytes; nothing is written where they do not fit.
-unfoldable pub elimination : ℕ → List ℕ → List ℕ → Outcome
+unfoldable pub elimination : ℕ → List ℕ → List ℕ → Eliminating
 elimination l list state =
     let all = absorbEach (rowBytes l) 0 (rowsOf l list) (record { state = emptied state; rank = 0 }) in
     cond (eliminates l (rowCount l list) (length state)) (record { answer = Rank (all .rank); state = all .state }) (record { answer = Misfit; state = state })

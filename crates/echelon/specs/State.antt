@@ -54,7 +54,7 @@ placesIn m state = numbers 2 m (drop placesAt state)
 unfoldable pub passIn : ℕ → ℕ → List ℕ → Pass
 passIn key row state = pass (tailDigits key) (slotsIn key state) (row * 2 ^ tailDigits key)
 
--- Of the slot at place t: where its head begins, and the head, the eight bytes in which its first digit stands, the last one first.
+-- Of slot t: where its head begins, and the head, the eight bytes in which its first digit stands, the last one first.
 unfoldable pub headAt : ℕ → ℕ
 headAt t = headsAt + 512 * (t / 64) + 8 * (63 - t % 64)
 
@@ -65,7 +65,7 @@ headOf t slot = littleBytes 8 (wordAt (8 * (t / 64)) slot)
 unfoldable pub placedState : ℕ → ℕ → List ℕ → List ℕ
 placedState m r state = lay (usesAt + 2 * r) (bytes 2 0) (lay (placesAt + 2 * m) (bytes 2 (r + 1)) state)
 
--- A row is kept: the vector, with the digit worth 2^r that names its own place, at slot t, and its head.
+-- A row is kept: the vector, with the digit worth 2^r that names its kept place, at slot t, and its head.
 unfoldable pub keptState : ℕ → List ℕ → ℕ → ℕ → List ℕ → List ℕ
 keptState t vector m r state =
     lay (t * vectorBytes) (bytes vectorBytes (number vector ⊕ 2 ^ r)) (lay (headAt t) (headOf t vector) (placedState m r state))
@@ -74,7 +74,7 @@ keptState t vector m r state =
 pub record KeepRoom (t m r room : ℕ) : Type 0 where
   pub slot : t < mostKept
   pub arrival : m < mostRows
-  pub place : r < mostKept
+  pub rank : r < mostKept
   pub whole : stateBytes ≤ room
 
 -- A row is not kept: one use more for each of the r kept places that the vector's lowest digits name. Uses count modulo 65,536.
@@ -86,19 +86,19 @@ pub record Absorption : Type 0 where
   pub answer : Absorbed
   pub state : List ℕ
 
-abbrev pub gives : Absorbed → List ℕ → Absorption
-gives answer state = record { answer = answer; state = state }
+abbrev pub absorbedAs : Absorbed → List ℕ → Absorption
+absorbedAs answer state = record { answer = answer; state = state }
 
--- Where the pass stopped the row is kept, if there is a place for it; else its uses are counted.
+-- Where the pass stops the row is kept, if there is a kept place left; else its uses are counted.
 unfoldable pub taken : ℕ → Pass → ℕ → ℕ → List ℕ → Absorption
 taken key p m r state =
-    cond (ltb (p .place) (8 * key))
-    (cond (ltb r mostKept) (gives Kept (keptState (p .place) (bytes vectorBytes (p .vector)) m r state)) (gives Misfit state))
-    (gives Other (countedState (p .vector) m r state))
+    cond (ltb (p .stop) (8 * key))
+    (cond (ltb r mostKept) (absorbedAs Kept (keptState (p .stop) (bytes vectorBytes (p .vector)) m r state)) (absorbedAs Misfit state))
+    (absorbedAs Other (countedState (p .vector) m r state))
 
--- "rows of 9 to 40 bytes, at most 512 of them": whether a row, an arrival and a kept place fit a state of so many bytes.
+-- Whether a row of 9 to 40 bytes, an arrival and so many kept rows before it fit a state of so many bytes.
 unfoldable pub takes : ℕ → ℕ → ℕ → ℕ → Bool
 takes key m r room = (leb 9 key && leb key 40) && ((ltb m mostRows && leb r mostKept) && leb stateBytes room)
 
 unfoldable pub absorption : ℕ → ℕ → ℕ → ℕ → List ℕ → Absorption
-absorption key row m r state = cond (takes key m r (length state)) (taken key (passIn key row state) m r state) (gives Misfit state)
+absorption key row m r state = cond (takes key m r (length state)) (taken key (passIn key row state) m r state) (absorbedAs Misfit state)

@@ -84,7 +84,7 @@ fn tally(uses: &mut [u8], tail: &[u8], r: usize)
 // The row with an empty tail, reduced by the slots.
 fn attempt(work: &mut [u8], row: &[u8], state: &[u8]) -> usize
     requires { ⌜ (now work ≡ replicate vectorBytes 0) × (length (now row) ≤ 40) × (stateBytes ≤ length (now state)) ⌝ }
-    ensures place { λ r. ⌜ r ≡ passIn (length (now (row .entry))) (number (now (row .entry))) (now (state .entry)) .place ⌝ }
+    ensures stop { λ r. ⌜ r ≡ passIn (length (now (row .entry))) (number (now (row .entry))) (now (state .entry)) .stop ⌝ }
     ensures left { λ r. ⌜ now (work .exit) ≡ bytes vectorBytes (passIn (length (now (row .entry))) (number (now (row .entry))) (now (state .entry)) .vector) ⌝ }
 {
     let key = row.len();
@@ -96,7 +96,7 @@ fn attempt(work: &mut [u8], row: &[u8], state: &[u8]) -> usize
     }
 }
 
-// Repeats the eight bytes of a vector in which place t stands, where reducing looks for them.
+// Repeats the eight bytes of a vector in which the digit of slot t stands, where reducing looks for them.
 fn put_head(state: &mut [u8], vector: &[u8], t: usize)
     requires { ⌜ (t < mostKept) × (stateBytes ≤ length (now state)) ⌝ }
     ensures { λ _. ⌜ now (state .exit) ≡ lay (headAt t) (headOf t (now (vector .entry))) (now (state .entry)) ⌝ }
@@ -106,7 +106,7 @@ fn put_head(state: &mut [u8], vector: &[u8], t: usize)
     words::put_little(&mut state[h..e], words::word(vector, 8 * (t / 64)));
 }
 
-// The vector, and in its tail the digit that names its own place, to slot t.
+// The vector, and in its tail the digit that names its kept place, to slot t.
 fn put_vector(state: &mut [u8], vector: &[u8], t: usize, place: KeptPlace)
     requires { ⌜ (t < mostKept) × (place .0 < mostKept) × (stateBytes ≤ length (now state)) × (length (now vector) ≡ vectorBytes) ⌝ }
     ensures { λ _. ⌜ now (state .exit) ≡ lay (t * vectorBytes) (bytes vectorBytes (number (now (vector .entry)) ⊕ 2 ^ (place .0))) (now (state .entry)) ⌝ }

@@ -21,7 +21,7 @@ use Rattle.choose.specs.declared.Choice.{Choice}
 use Rattle.choose.specs.declared.Choice.the-variants.{Few, Tie, Picked}
 use Rattle.choose.specs.Pick.{least, choiceOf}
 use Rattle.choose.proofs.Chosen.{choice-is, choice-says}
-use Rattle.solve.specs.Solve.{chosen, slotBytes, fits}
+use Rattle.solve.specs.Solve.{chosen, slotBytes, solvable}
 use Rattle.solve.proofs.Chosen.{chosen-picked}
 use Rattle.choose.specs.Mark.{roleBy}
 use Rattle.reader.specs.Sift.{Listed, SiftedBy}
@@ -73,11 +73,11 @@ module _ (n l : ℕ) (list : List ℕ) (lent : Lent) (P : checks n l list lent �
       record { some = r .l-low; most = r .l-high; whole = whole n l list lent p; many = rows-most n l list lent p }
 
   module _ (r : ℕ) (choice : Choice) (uses₁ roles₁ : List ℕ) (S : SiftedBy n (rowsOf l list) r choice (lent .uses) uses₁ (lent .roles) roles₁) where
-    pub solvable : isPicked choice → (slots : List ℕ) → slotBytes ≤ length slots → length roles₁ ≡ length (lent .roles) → Solvable n l list roles₁ slots (lent .page)
-    solvable k slots wide same = go choice refl k
+    pub is-solvable : isPicked choice → (slots : List ℕ) → slotBytes ≤ length slots → length roles₁ ≡ length (lent .roles) → Solvable n l list roles₁ slots (lent .page)
+    is-solvable k slots wide same = go choice refl k
       where
-        fit : fits n l list roles₁ slots (lent .page) ≡ true
-        fit = unfold fits in
+        fit : solvable n l list roles₁ slots (lent .page) ≡ true
+        fit = unfold solvable in
             rw (p .shaped) (rw (p .listed) (rw (le-leb (rowCount l list) (length roles₁) (omega (arith, room .roles, same)))
             (rw (le-leb slotBytes (length slots) wide) (rw (le-leb (n * l) (length (lent .page)) (room .page))))))
 

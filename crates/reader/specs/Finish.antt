@@ -14,7 +14,7 @@ use Rattle.reading.specs.Reading.{pickedRows, pageOf, agreement, tie, singular}
 use Rattle.reading.specs.Outcome.{Lent, Outcome, Check, passes, refuses}
 use Rattle.choose.specs.declared.Choice.{Choice}
 use Rattle.choose.specs.declared.Choice.the-variants.{Few, Tie, Picked}
-use Rattle.solve.specs.Solve.{chosen, fits}
+use Rattle.solve.specs.Solve.{chosen, solvable}
 use Rattle.reader.specs.declared.Checked.{Checked}
 use Rattle.reader.specs.declared.Checked.the-variants.{Refused, Passed}
 
@@ -51,7 +51,7 @@ isPicked (Picked least) = Unit {0}
 pub record Solvable (n l : ℕ) (list roles slots page : List ℕ) : Type 0 where
   pub range : InRange n l
   pub room : n * l ≤ length page
-  pub fit : fits n l list roles slots page ≡ true
+  pub fit : solvable n l list roles slots page ≡ true
   pub inside : Below (2 ^ n) (map (constraint l) (rowsOf l list))
   pub none : tie n (rowsOf l list) ≡ false
   pub marked : chosen roles (rowsOf l list) ≡ pickedRows n (rowsOf l list)

@@ -12,35 +12,35 @@ use borrow.Author.Tests.{le-leb, lt-leb, leb-true, lt-ltb, le-ltb}
 use Rattle.space.proofs.Both.{both}
 use Rattle.octets.specs.Octets.{bytes}
 use Rattle.slots.specs.declared.Reduced.the-variants.{Stopped, Spent, Misfit}
-use Rattle.slots.specs.Reducing.{fits, passOf, stopOf, reduceAnswer, reduceWork}
+use Rattle.slots.specs.Reducing.{reducible, passOf, stopOf, reduceAnswer, reduceWork}
 
 pub record Fits (key w room : ℕ) : Type 0 where
   pub inside : key ≤ w
   pub small : w ≤ 4096
   pub big : 8 * key * w ≤ room
 
-pub fits-so : (key w room : ℕ) → fits key w room ≡ true → Fits key w room
-unfolding fits
+pub fits-so : (key w room : ℕ) → reducible key w room ≡ true → Fits key w room
+unfolding reducible
 fits-so key w room e =
     let a : (leb key w ≡ true) × ((leb w 4096 && leb (8 * key * w) room) ≡ true) = both (leb key w) (leb w 4096 && leb (8 * key * w) room) e in
     let b : (leb w 4096 ≡ true) × (leb (8 * key * w) room ≡ true) = both (leb w 4096) (leb (8 * key * w) room) (a .1) in
     record { inside = leb-true key w (a .0); small = leb-true w 4096 (b .0); big = leb-true (8 * key * w) room (b .1) }
 
-pub fits-when : (key w room : ℕ) → Fits key w room → fits key w room ≡ true
-unfolding fits
+pub fits-when : (key w room : ℕ) → Fits key w room → reducible key w room ≡ true
+unfolding reducible
 fits-when key w room F = rw (le-leb key w (F .inside)) (rw (le-leb w 4096 (F .small)) (le-leb (8 * key * w) room (F .big)))
 
 -- the tests of the code, in its order
-pub outside : (key w room : ℕ) → w < key → false ≡ fits key w room
-unfolding fits
+pub outside : (key w room : ℕ) → w < key → false ≡ reducible key w room
+unfolding reducible
 outside key w room h = rw (lt-leb key w h)
 
-pub too-long : (key w room : ℕ) → key ≤ w → 4096 < w → false ≡ fits key w room
-unfolding fits
+pub too-long : (key w room : ℕ) → key ≤ w → 4096 < w → false ≡ reducible key w room
+unfolding reducible
 too-long key w room h l = rw (le-leb key w h) (rw (lt-leb w 4096 l))
 
-pub fits-room : (key w room : ℕ) → key ≤ w → w ≤ 4096 → leb (8 * key * w) room ≡ fits key w room
-unfolding fits
+pub fits-room : (key w room : ℕ) → key ≤ w → w ≤ 4096 → leb (8 * key * w) room ≡ reducible key w room
+unfolding reducible
 fits-room key w room h l = rw (le-leb key w h) (rw (le-leb w 4096 l))
 
 -- the product is no longer than a machine's number
@@ -54,19 +54,19 @@ pub slot-end : (key w room u : ℕ) → Fits key w room → u < 8 * key → u * 
 slot-end key w room u F h = omega (arith, mul-le-mul-right w h, suc-mul u w, product-lt key w (F .inside) (F .small))
 
 module _ (key : ℕ) (slots work : List ℕ) where
-  pub misfit : fits key (length work) (length slots) ≡ false → (Misfit ≡ reduceAnswer key slots work) × (work ≡ reduceWork key slots work)
+  pub misfit : reducible key (length work) (length slots) ≡ false → (Misfit ≡ reduceAnswer key slots work) × (work ≡ reduceWork key slots work)
   unfolding reduceAnswer reduceWork
   misfit e = (rw e, rw e)
 
-  module _ (e : fits key (length work) (length slots) ≡ true) where
+  module _ (e : reducible key (length work) (length slots) ≡ true) where
     pub swept : bytes (length work) (passOf key slots work .vector) ≡ reduceWork key slots work
     unfolding reduceWork
     swept = rw e
 
-    pub stopped : (t : ℕ) → t ≡ passOf key slots work .place → t < 8 * key → Stopped t ≡ reduceAnswer key slots work
+    pub stopped : (t : ℕ) → t ≡ passOf key slots work .stop → t < 8 * key → Stopped t ≡ reduceAnswer key slots work
     unfolding reduceAnswer stopOf
     stopped t p h = rw e (rw (sym p) (rw (lt-ltb t (8 * key) h)))
 
-    pub spent : (t : ℕ) → t ≡ passOf key slots work .place → 8 * key ≤ t → Spent ≡ reduceAnswer key slots work
+    pub spent : (t : ℕ) → t ≡ passOf key slots work .stop → 8 * key ≤ t → Spent ≡ reduceAnswer key slots work
     unfolding reduceAnswer stopOf
     spent t p h = rw e (rw (sym p) (rw (le-ltb t (8 * key) h)))

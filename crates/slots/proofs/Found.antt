@@ -1,4 +1,4 @@
--- A turn of `group`, at a place whose digit is set: it stops there if the slot of that place has no such digit, and else adds the slot and
+-- A turn of `group`, at a slot whose digit is set: it stops there if the slot has no such digit, and else adds the slot and
 -- goes on behind it.
 -- Assumes nothing.
 use mathlib.Core.Path.{_≡_, sym, ap, _∙_}
@@ -46,18 +46,18 @@ module _ (key w : ℕ) (slots : List ℕ) (p : Pass) (work : List ℕ) (u : ℕ)
   slot-is : getD (ss key w slots) u 0 ≡ number slot
   slot-is = getD-numbers w (8 * key) slots u (F .inside)
 
-  -- the digit that the place stands for, of the slot and of work
+  -- the digit that the slot stands for, of the slot and of work
   slot-digit : digit (8 * (w - key) + (length (ss key w slots) - suc u)) (getD (ss key w slots) u 0) ≡ digit (8 * w - suc u) (number slot)
   slot-digit = rw (worth key w slots (F .fit .inside) u (F .inside)) (ap (digit (8 * w - suc u)) slot-is)
 
   work-digit : digit (8 * (w - key) + (length (ss key w slots) - suc u)) (number work) ≡ true
   work-digit = rw (worth key w slots (F .fit .inside) u (F .inside)) (F .found)
 
-  pub found-stop : digit (8 * w - suc u) (number slot) ≡ false → (p .vector ≡ number work) × (p .place ≡ u)
+  pub found-stop : digit (8 * w - suc u) (number slot) ≡ false → (p .vector ≡ number work) × (p .stop ≡ u)
   found-stop e =
-      let s : from key w slots u (number work) ≡ record { vector = number work; place = 0 } =
+      let s : from key w slots u (number work) ≡ record { vector = number work; stop = 0 } =
       turn-stop (8 * (w - key)) (ss key w slots) u u-inside (number work) work-digit (slot-digit ∙ e) in
-      (sym (F .passing .vector) ∙ ap (λ (q : Pass). q .vector) s, omega (arith, F .passing .place, ap (λ (q : Pass). q .place) s))
+      (sym (F .passing .vector) ∙ ap (λ (q : Pass). q .vector) s, omega (arith, F .passing .stop, ap (λ (q : Pass). q .stop) s))
 
   pub found-add : digit (8 * w - suc u) (number slot) ≡ true → Passing key w slots p (addFront work slot) (u + 1)
   unfolding later
@@ -72,5 +72,5 @@ module _ (key w : ℕ) (slots : List ℕ) (p : Pass) (work : List ℕ) (u : ℕ)
         long = length-addFront work slot ∙ F .passing .long;
         below = rw (addFront-whole work slot same) (xorBytes-below work slot (F .passing .below) slot-below);
         vector = rw n (sym (ap (λ (q : Pass). q .vector) s) ∙ F .passing .vector);
-        place = rw n (omega (arith, ap (λ (q : Pass). q .place) s, F .passing .place));
+        stop = rw n (omega (arith, ap (λ (q : Pass). q .stop) s, F .passing .stop));
       })

@@ -1,4 +1,4 @@
--- The loop of `group`: a word has the digits of work that are left of a run of 64 places, and the pass has gone by those before them.
+-- The loop of `group`: a word has the digits of work that are left of a run of 64 slots, and the pass has gone by those before them.
 -- Assumes nothing.
 use mathlib.Core.Path.{_≡_, sym, ap, _∙_}
 use mathlib.Core.List.{List}
@@ -40,7 +40,7 @@ grouping-start key w slots p g work x P e =
 
 module _ (key w : ℕ) (slots : List ℕ) (fit : Fits key w (length slots)) (bytes : Below 256 slots) (p : Pass) (g : ℕ) (work : List ℕ) (x : ℕ)
     (G : Grouping key w slots p g work x) where
-  -- the digit at a place that is left
+  -- the digit of a slot that is left
   left-digit : (c u : ℕ) → u + c ≡ 8 * g + 63 → c < G .left → u < 8 * key → digit (8 * w - suc u) (number work) ≡ digit c x
   left-digit c u e l h =
       let long : length work ≡ w = G .passing .long in
@@ -67,7 +67,7 @@ module _ (key w : ℕ) (slots : List ℕ) (fit : Fits key w (length slots)) (byt
   -- ---- a turn, at the first digit that is left
 
   module _ (some : 0 < x) (b : ℕ) (first : b ≡ highest x) where
-    -- its place
+    -- its slot
     abbrev u : ℕ
     u = 8 * g + 63 - b
 
@@ -93,7 +93,7 @@ module _ (key w : ℕ) (slots : List ℕ) (fit : Fits key w (length slots)) (byt
     there : u + b ≡ 8 * g + 63
     there = omega (arith, turn-small)
 
-    -- past the last place
+    -- past the last slot
     pub turn-past : 8 * key ≤ u → Passing key w slots p work (8 * key)
     turn-past h = pass-to (suc b) (8 * key) high (omega (arith, G .passing .within)) (omega arith) (omega (arith, turn-small))
 
@@ -120,7 +120,7 @@ module _ (key w : ℕ) (slots : List ℕ) (fit : Fits key w (length slots)) (byt
           (omega (arith, fit .inside, turn-wide)))
 
       -- an empty slot
-      pub turn-stop : digit b (wordAt g (take w (drop (u * w) slots))) ≡ false → (p .vector ≡ number work) × (p .place ≡ u)
+      pub turn-stop : digit b (wordAt g (take w (drop (u * w) slots))) ≡ false → (p .vector ≡ number work) × (p .stop ≡ u)
       turn-stop d = found-stop key w slots p work u found (sym digit-is ∙ d)
 
       -- the slot added
@@ -148,7 +148,7 @@ module _ (key : ℕ) (slots before after : List ℕ) (g : ℕ) where
   abbrev pass-before : Pass
   pass-before = passFrom key (length before) slots before (8 * g)
 
-  -- behind its places, or behind them all
+  -- behind its slots, or behind them all
   pub grouped-past : (r : ℕ) → key ≤ length before → Passing key (length before) slots pass-before after r → r ≡ min (8 * g + 64) (8 * key) → Grouped key slots before after g r
   unfolding restFrom slotsOf
   grouped-past r inside P e = record {
@@ -157,10 +157,10 @@ module _ (key : ℕ) (slots before after : List ℕ) (g : ℕ) where
         let all : 8 * key ≡ r = omega arith in
         let end = passing-end key (length before) slots pass-before after inside r P (omega arith) in
         (end .0, end .1 ∙ all);
-    passed = λ h. (omega arith, rw (P .long) (P .vector), rw (P .long) (P .place));
+    passed = λ h. (omega arith, rw (P .long) (P .vector), rw (P .long) (P .stop));
   }
 
   -- at an empty slot
-  pub grouped-stop : (r : ℕ) → r < 8 * key → r < 8 * g + 64 → (pass-before .vector ≡ number after) × (pass-before .place ≡ r) → Grouped key slots before after g r
+  pub grouped-stop : (r : ℕ) → r < 8 * key → r < 8 * g + 64 → (pass-before .vector ≡ number after) × (pass-before .stop ≡ r) → Grouped key slots before after g r
   unfolding restFrom slotsOf
   grouped-stop r h l s = record { within = omega arith; stopped = λ k. s; passed = λ k. absurd (omega arith) }

@@ -1,4 +1,4 @@
--- The digits of a word of eight bytes are those of the places from its first byte on.
+-- The digits of a word of eight bytes are those of the slots from its first byte on.
 -- Assumes nothing.
 use mathlib.Core.Path.{_≡_, sym, ap, _∙_}
 use mathlib.Core.List.{List}
@@ -14,7 +14,7 @@ use Rattle.words.proofs.Words.{word-number}
 use Rattle.basis.specs.Algorithm2.{digit}
 use Rattle.basis.proofs.Digits.{digit-mod}
 
--- the digit worth 2^c of the word at byte g stands at place u
+-- the digit worth 2^c of the word at byte g stands for slot u
 pub word-digit : (v : List ℕ) (g c u : ℕ) → Below 256 v → g ≤ length v → u + c ≡ 8 * g + 63 → c < 64 → u < 8 * length v → digit c (wordAt g v) ≡ digit (8 * length v - suc u) (number v)
 unfolding digit
 word-digit v g c u b i e l h =

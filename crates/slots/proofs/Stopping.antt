@@ -11,54 +11,54 @@ use borrow.Author.Tests.{ltb-true, ltb-false}
 use Rattle.octets.specs.Octets.{number}
 use Rattle.octets.proofs.Runs.{length-numbers}
 use Rattle.basis.specs.Algorithm2.{Pass}
-use Rattle.basis.proofs.Passes.{pass-place}
+use Rattle.basis.proofs.Passes.{pass-stop-le}
 use Rattle.slots.specs.declared.Reduced.{Reduced}
 use Rattle.slots.specs.declared.Reduced.the-variants.{Stopped, Spent, Misfit}
-use Rattle.slots.specs.Reducing.{fits, slotsOf, passOf, stopOf, reduceAnswer}
+use Rattle.slots.specs.Reducing.{reducible, slotsOf, passOf, stopOf, reduceAnswer}
 
-pub stopped-at : (n : ℕ) (p : Pass) (place : ℕ) → stopOf n p ≡ Stopped place → (p .place ≡ place) × (place < n)
+pub stopped-at : (n : ℕ) (p : Pass) (t : ℕ) → stopOf n p ≡ Stopped t → (p .stop ≡ t) × (t < n)
 unfolding stopOf
-stopped-at n p place e = go (ltb (p .place) n) refl e
+stopped-at n p t e = go (ltb (p .stop) n) refl e
   where
-    go : (b : Bool) → ltb (p .place) n ≡ b → cond b (Stopped (p .place)) Spent ≡ Stopped place → (p .place ≡ place) × (place < n)
-    go true h q = let same : p .place ≡ place = cc in (same, rw same at (ltb-true (p .place) n h))
+    go : (b : Bool) → ltb (p .stop) n ≡ b → cond b (Stopped (p .stop)) Spent ≡ Stopped t → (p .stop ≡ t) × (t < n)
+    go true h q = let same : p .stop ≡ t = cc in (same, rw same at (ltb-true (p .stop) n h))
     go false h q = let z : _≡_ {A = ℕ} 0 1 = cc in absurd (omega arith)
 
-pub spent-at : (n : ℕ) (p : Pass) → stopOf n p ≡ Spent → n ≤ p .place
+pub spent-at : (n : ℕ) (p : Pass) → stopOf n p ≡ Spent → n ≤ p .stop
 unfolding stopOf
-spent-at n p e = go (ltb (p .place) n) refl e
+spent-at n p e = go (ltb (p .stop) n) refl e
   where
-    go : (b : Bool) → ltb (p .place) n ≡ b → cond b (Stopped (p .place)) Spent ≡ Spent → n ≤ p .place
+    go : (b : Bool) → ltb (p .stop) n ≡ b → cond b (Stopped (p .stop)) Spent ≡ Spent → n ≤ p .stop
     go true h q = let z : _≡_ {A = ℕ} 0 1 = cc in absurd (omega arith)
-    go false h q = ltb-false (p .place) n h
+    go false h q = ltb-false (p .stop) n h
 
 pub misfit-never : (n : ℕ) (p : Pass) → stopOf n p ≡ Misfit → ⊥
 unfolding stopOf
-misfit-never n p e = go (ltb (p .place) n) e
+misfit-never n p e = go (ltb (p .stop) n) e
   where
-    go : (b : Bool) → cond b (Stopped (p .place)) Spent ≡ Misfit → ⊥
+    go : (b : Bool) → cond b (Stopped (p .stop)) Spent ≡ Misfit → ⊥
     go true q = let z : _≡_ {A = ℕ} 0 1 = cc in omega arith
     go false q = let z : _≡_ {A = ℕ} 0 1 = cc in omega arith
 
 -- ---- of what fits
 
-module _ (key : ℕ) (slots work : List ℕ) (f : fits key (length work) (length slots) ≡ true) where
+module _ (key : ℕ) (slots work : List ℕ) (f : reducible key (length work) (length slots) ≡ true) where
   stop : (r : Reduced) → r ≡ reduceAnswer key slots work → stopOf (8 * key) (passOf key slots work) ≡ r
   unfolding reduceAnswer
   stop r e = sym (e ∙ rw f)
 
-  pub place-stopped : (t : ℕ) → Stopped t ≡ reduceAnswer key slots work → t ≡ passOf key slots work .place
-  place-stopped t e = sym (stopped-at (8 * key) (passOf key slots work) t (stop (Stopped t) e) .0)
+  pub stop-stopped : (t : ℕ) → Stopped t ≡ reduceAnswer key slots work → t ≡ passOf key slots work .stop
+  stop-stopped t e = sym (stopped-at (8 * key) (passOf key slots work) t (stop (Stopped t) e) .0)
 
-  pub place-spent : Spent ≡ reduceAnswer key slots work → 8 * key ≡ passOf key slots work .place
+  pub stop-spent : Spent ≡ reduceAnswer key slots work → 8 * key ≡ passOf key slots work .stop
   unfolding passOf slotsOf
-  place-spent e =
+  stop-spent e =
       omega (
         arith,
         spent-at (8 * key) (passOf key slots work) (stop Spent e),
-        pass-place (8 * (length work - key)) (slotsOf key (length work) slots) (number work),
+        pass-stop-le (8 * (length work - key)) (slotsOf key (length work) slots) (number work),
         length-numbers (length work) (8 * key) slots,
       )
 
-  pub place-misfit : Misfit ≡ reduceAnswer key slots work → ⊥
-  place-misfit e = misfit-never (8 * key) (passOf key slots work) (stop Misfit e)
+  pub stop-misfit : Misfit ≡ reduceAnswer key slots work → ⊥
+  stop-misfit e = misfit-never (8 * key) (passOf key slots work) (stop Misfit e)

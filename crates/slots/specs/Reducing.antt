@@ -15,8 +15,8 @@ use Rattle.slots.specs.declared.Reduced.the-variants.{Stopped, Spent, Mi
 use Rattle.basis.specs.Algorithm2.{Pass, pass}
 
 -- Whether the key lies within a vector of w bytes, the vector is no longer than 4,096 bytes, and there is room for a slot for each digit.
-unfoldable pub fits : ℕ → ℕ → ℕ → Bool
-fits key w room = leb key w && (leb w 4096 && leb (8 * key * w) room)
+unfoldable pub reducible : ℕ → ℕ → ℕ → Bool
+reducible key w room = leb key w && (leb w 4096 && leb (8 * key * w) room)
 
 -- The slots' numbers.
 unfoldable pub slotsOf : ℕ → ℕ → List ℕ → List ℕ
@@ -26,32 +26,32 @@ slotsOf key w slots = numbers w (8 * key) slots
 unfoldable pub passOf : ℕ → List ℕ → List ℕ → Pass
 passOf key slots work = pass (8 * (length work - key)) (slotsOf key (length work) slots) (number work)
 
--- The rest of a pass, from place u on.
+-- The rest of a pass, from slot u on.
 unfoldable pub restFrom : ℕ → List ℕ → List ℕ → ℕ → Pass
 restFrom key slots work u = pass (8 * (length work - key)) (drop u (slotsOf key (length work) slots)) (number work)
 
--- The vector before and after the pass over the 64 places from byte g of the key on, and where that ended: either where the whole pass stops,
--- or behind these places, from where the rest of the pass ends as the pass from byte g on does.
-pub record Grouped (key : ℕ) (slots before after : List ℕ) (g place : ℕ) : Type 0 where
-  pub within : place ≤ 8 * key
-  pub stopped : place < 8 * g + 64
-      → (restFrom key slots before (8 * g) .vector ≡ number after) × (8 * g + restFrom key slots before (8 * g) .place ≡ place)
-  pub passed : 8 * g + 64 ≤ place
-      → (place ≡ 8 * g + 64) × (restFrom key slots after place .vector ≡ restFrom key slots before (8 * g) .vector)
-      × (place + restFrom key slots after place .place ≡ 8 * g + restFrom key slots before (8 * g) .place)
+-- The vector before and after the pass over the 64 slots from byte g of the key on, and where that ended: either where the whole pass stops,
+-- or behind these slots, from where the rest of the pass ends as the pass from byte g on does.
+pub record Grouped (key : ℕ) (slots before after : List ℕ) (g ended : ℕ) : Type 0 where
+  pub within : ended ≤ 8 * key
+  pub stopped : ended < 8 * g + 64
+      → (restFrom key slots before (8 * g) .vector ≡ number after) × (8 * g + restFrom key slots before (8 * g) .stop ≡ ended)
+  pub passed : 8 * g + 64 ≤ ended
+      → (ended ≡ 8 * g + 64) × (restFrom key slots after ended .vector ≡ restFrom key slots before (8 * g) .vector)
+      × (ended + restFrom key slots after ended .stop ≡ 8 * g + restFrom key slots before (8 * g) .stop)
 
--- What a walk came to: where it ended, the vector and the place are those of the pass over the 64 places; astray, it tells nothing.
+-- What a walk came to: where it ended, and the vector, are those of the pass over the 64 slots; astray, it tells nothing.
 unfoldable pub Walked : ℕ → List ℕ → List ℕ → ℕ → Walk → Type 0
-Walked key slots before g (Ended v place) = Grouped key slots before (bytesOf v) g place
+Walked key slots before g (Ended v ended) = Grouped key slots before (bytesOf v) g ended
 Walked key slots before g Astray = Unit {0}
 
--- Where a pass over n slots stopped.
+-- Where a pass over n slots stops.
 unfoldable pub stopOf : ℕ → Pass → Reduced
-stopOf n p = cond (ltb (p .place) n) (Stopped (p .place)) Spent
+stopOf n p = cond (ltb (p .stop) n) (Stopped (p .stop)) Spent
 
 -- The answer; and the vector afterwards, unchanged where it does not fit.
 unfoldable pub reduceAnswer : ℕ → List ℕ → List ℕ → Reduced
-reduceAnswer key slots work = cond (fits key (length work) (length slots)) (stopOf (8 * key) (passOf key slots work)) Misfit
+reduceAnswer key slots work = cond (reducible key (length work) (length slots)) (stopOf (8 * key) (passOf key slots work)) Misfit
 
 unfoldable pub reduceWork : ℕ → List ℕ → List ℕ → List ℕ
-reduceWork key slots work = cond (fits key (length work) (length slots)) (bytes (length work) (passOf key slots work .vector)) work
+reduceWork key slots work = cond (reducible key (length work) (length slots)) (bytes (length work) (passOf key slots work .vector)) work

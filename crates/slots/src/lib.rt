@@ -8,17 +8,17 @@ ghost use Rattle.octets.specs.Octets.{bytes};
 ghost use Rattle.words.specs.Words.{wordAt};
 ghost use Rattle.vectors.specs.Vectors.{bytesOf};
 ghost use Rattle.basis.specs.Algorithm2.{digit};
-ghost use Rattle.slots.specs.Reducing.{fits, Grouped, Walked, passOf, reduceAnswer, reduceWork};
+ghost use Rattle.slots.specs.Reducing.{reducible, Grouped, Walked, passOf, reduceAnswer, reduceWork};
 use vectors::Vector;
 
-// Where a pass over slots ended: at an empty slot, by that place; or past them all.
+// Where a pass over slots stops: at an empty slot, by its number; or past them all.
 pub enum Reduced {
     Stopped(usize),
     Spent,
     Misfit,
 }
 
-// What a walk over the slots of 64 places came to: the vector and the place where it ended; or it met a slot that it can't go on from.
+// What a walk over 64 slots came to: the vector and where it ended; or it met a slot that it can't go on from.
 enum Walk {
     Ended(Vector, usize),
     Astray,
@@ -40,13 +40,12 @@ fn behind(x: u64, y: u64, b: usize) -> u64
     (x ^ y) % (1u64 << b)
 }
 
-// ---- 64 places
+// ---- 64 slots
 
-// The pass over the slots of the 64 places from byte g of the key on, and where it stopped: behind the last of these places if it went by
-// all. The word x has the digits that are left, so that no byte is read back after a slot is added. The pass goes on behind each slot, so it
+// The pass over the 64 slots from byte g of the key on, and where it stops: behind the last of them if it went by all. The word x has the digits that are left, so that no byte is read back after a slot is added. The pass goes on behind each slot, so it
 // ends on any slots.
 fn group(work: &mut [u8], slots: &[u8], key: usize, g: usize) -> usize
-    requires { ⌜ (fits key (length (now work)) (length (now slots)) ≡ true) × (g < key) ⌝ }
+    requires { ⌜ (reducible key (length (now work)) (length (now slots)) ≡ true) × (g < key) ⌝ }
     ensures { λ r. ⌜ Grouped key (now (slots .entry)) (now (work .entry)) (now (work .exit)) g r ⌝ }
 {
     let w = work.len();
@@ -74,7 +73,7 @@ fn group(work: &mut [u8], slots: &[u8], key: usize, g: usize) -> usize
 // word before the slot is found. A head is only told: each is held against its slot. A slot with a digit before its own, as elimination
 // leaves none, leads astray too: without one the sum of both words has the digits that are left, and no other.
 fn walk_on(from: Vector, digits: u64, slots: &[u8], heads: &[u8], key: usize, g: usize) -> Walk
-    requires { ⌜ (fits key 80 (length (now slots)) ≡ true) × (g < key) × (length (now heads) ≡ 512) × (digits ≡ wordAt g (bytesOf from)) ⌝ }
+    requires { ⌜ (reducible key 80 (length (now slots)) ≡ true) × (g < key) × (length (now heads) ≡ 512) × (digits ≡ wordAt g (bytesOf from)) ⌝ }
     ensures { λ r. ⌜ Walked key (now (slots .entry)) (bytesOf from) g r ⌝ }
 {
     let end = 8 * key;
@@ -106,9 +105,9 @@ fn walk_on(from: Vector, digits: u64, slots: &[u8], heads: &[u8], key: usize, g:
     Walk::Ended(v, octets::least(8 * g + 64, end))
 }
 
-// The pass over the 64 places in registers, unless a head leads astray. Where no digit is set, nothing is loaded.
+// The pass over the 64 slots in registers, unless a head leads astray. Where no digit is set, nothing is loaded.
 fn group_80(work: &mut [u8], slots: &[u8], heads: &[u8], key: usize, g: usize) -> usize
-    requires { ⌜ (fits key (length (now work)) (length (now slots)) ≡ true) × (g < key) × (length (now work) ≡ 80) ⌝ }
+    requires { ⌜ (reducible key (length (now work)) (length (now slots)) ≡ true) × (g < key) × (length (now work) ≡ 80) ⌝ }
     ensures { λ r. ⌜ Grouped key (now (slots .entry)) (now (work .entry)) (now (work .exit)) g r ⌝ }
 {
     let x = words::word(work, g);
@@ -129,9 +128,9 @@ fn group_80(work: &mut [u8], slots: &[u8], heads: &[u8], key: usize, g: usize) -
     }
 }
 
-// The pass over the 64 places, as the vector's length allows.
+// The pass over the 64 slots, as the vector's length allows.
 fn group_any(work: &mut [u8], slots: &[u8], heads: &[u8], key: usize, g: usize) -> usize
-    requires { ⌜ (fits key (length (now work)) (length (now slots)) ≡ true) × (g < key) ⌝ }
+    requires { ⌜ (reducible key (length (now work)) (length (now slots)) ≡ true) × (g < key) ⌝ }
     ensures { λ r. ⌜ Grouped key (now (slots .entry)) (now (work .entry)) (now (work .exit)) g r ⌝ }
 {
     if work.len() == 80 {
@@ -143,10 +142,10 @@ fn group_any(work: &mut [u8], slots: &[u8], heads: &[u8], key: usize, g: usize) 
 
 // ---- the whole key
 
-// The pass of work over slots that fit it, and the place where it stopped, 8 * key if it went by all.
+// The pass of work over slots that fit it, and where it stops: 8 * key if it went by all.
 fn sweep(work: &mut [u8], slots: &[u8], heads: &[u8], key: usize) -> usize
-    requires { ⌜ fits key (length (now work)) (length (now slots)) ≡ true ⌝ }
-    ensures place { λ r. ⌜ r ≡ passOf key (now (slots .entry)) (now (work .entry)) .place ⌝ }
+    requires { ⌜ reducible key (length (now work)) (length (now slots)) ≡ true ⌝ }
+    ensures stop { λ r. ⌜ r ≡ passOf key (now (slots .entry)) (now (work .entry)) .stop ⌝ }
     ensures left { λ r. ⌜ now (work .exit) ≡ bytes (length (now (work .entry))) (passOf key (now (slots .entry)) (now (work .entry)) .vector) ⌝ }
 {
     let end = 8 * key;
@@ -163,7 +162,7 @@ fn sweep(work: &mut [u8], slots: &[u8], heads: &[u8], key: usize) -> usize
 
 // Whether a vector of w bytes with such a key, and room for its slots, fit.
 fn fitting(key: usize, w: usize, room: usize) -> bool
-    ensures { λ r. ⌜ r ≡ fits key w room ⌝ }
+    ensures { λ r. ⌜ r ≡ reducible key w room ⌝ }
 {
     if w < key {
         return false;
@@ -175,8 +174,8 @@ fn fitting(key: usize, w: usize, room: usize) -> bool
 }
 
 // Takes slots off work until its key has no digit left, or one whose slot is empty. Heads make that faster for vectors of 80 bytes: for the
-// slot at place t they repeat, at 512 * (t / 64) + 8 * (63 - t % 64), the eight bytes in which place t stands, the last one first. Whatever
-// they hold, the answer is the same.
+// slot t they repeat, at 512 * (t / 64) + 8 * (63 - t % 64), the eight bytes in which its digit stands, the last one first. Whatever they
+// hold, the answer is the same.
 pub fn reduce(work: &mut [u8], slots: &[u8], heads: &[u8], key: usize) -> Reduced
     ensures answer { λ r. ⌜ r ≡ reduceAnswer key (now (slots .entry)) (now (work .entry)) ⌝ }
     ensures left { λ r. ⌜ now (work .exit) ≡ reduceWork key (now (slots .entry)) (now (work .entry)) ⌝ }

@@ -20,7 +20,7 @@ use Rattle.reading.specs.Reading.{pickedRows, pageOf, tie, singular}
 use Rattle.reading.specs.Outcome.{telling, rolesMarks}
 use Rattle.reading.proofs.Pick.{picked-size, picked-inside}
 use Rattle.solve.specs.declared.Solved.the-variants.{Page, Singular}
-use Rattle.solve.specs.Solve.{chosen, fill, empty, filled, pageIn, fits, solveAnswer, solvePage}
+use Rattle.solve.specs.Solve.{chosen, fill, empty, filled, pageIn, solvable, solveAnswer, solvePage}
 use Rattle.solve.proofs.Filling.{Solving, fill-empty}
 use Rattle.solve.proofs.Pages.{page-right}
 use Rattle.solve.proofs.Chosen.{chosen-picked}
@@ -83,7 +83,7 @@ module _ (n l : ℕ) (list roles : List ℕ) (most : n ≤ 64) (inside : Below (
       fill-all n l (chosen marks (rowsOf l list)) most bits ∙ ap (λ (ps : List ℕ). independent (map (constraint l) ps)) picks
       ∙ twice (independent (map (constraint l) (pickedRows n (rowsOf l list))))
 
-  pub solve-answer : (slots page : List ℕ) → fits n l list (over (rolesMarks telling n (rowsOf l list)) roles) slots page ≡ true
+  pub solve-answer : (slots page : List ℕ) → solvable n l list (over (rolesMarks telling n (rowsOf l list)) roles) slots page ≡ true
       → solveAnswer n l list (over (rolesMarks telling n (rowsOf l list)) roles) slots page ≡ cond (singular n l (rowsOf l list)) Singular Page
   unfolding solveAnswer marks
   solve-answer slots page fit = rw (fit, solve-all) (cond-not (singular n l (rowsOf l list)))

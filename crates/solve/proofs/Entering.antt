@@ -59,13 +59,13 @@ module _ (slots work row : List ℕ) (least : 8 ≤ length row) (most : length r
       → slotsIn (length row) after ≡ entered (length row - 8) (slotsIn (length row) slots) (number row) → Fills (length row) slots (number row ∷ []) b after
   fills b after p q = ap₂ leaves q p ∙ sym (fill-one (length row - 8) (slotsIn (length row) slots) (number row))
 
-  pub fills-spent : 64 ≤ wholePass slots work .place → Fills (length row) slots (number row ∷ []) false slots
+  pub fills-spent : 64 ≤ wholePass slots work .stop → Fills (length row) slots (number row ∷ []) false slots
   unfolding enters entered model
   fills-spent h =
-      let at : model .place ≡ wholePass slots work .place = ap (λ (p : Pass). p .place) same in
+      let at : model .stop ≡ wholePass slots work .stop = ap (λ (p : Pass). p .stop) same in
       fills false slots
-      (sym (le-ltb (model .place) (length (slotsIn (length row) slots)) (omega (arith, width, at))))
-      (sym (set-out (slotsIn (length row) slots) (model .place) (model .vector) (omega (arith, width, at))))
+      (sym (le-ltb (model .stop) (length (slotsIn (length row) slots)) (omega (arith, width, at))))
+      (sym (set-out (slotsIn (length row) slots) (model .stop) (model .vector) (omega (arith, width, at))))
 
   -- what is left has a vector's bytes
   vector-back : Below 256 slots → Below 256 work → length work ≡ 80 → number (bytes 80 (wholePass slots work .vector)) ≡ wholePass slots work .vector
@@ -73,14 +73,14 @@ module _ (slots work row : List ℕ) (least : 8 ≤ length row) (most : length r
       number-bytes 80 (wholePass slots work .vector)
       (pass-lt 576 640 (numbers 80 64 slots) (number work) (numbers-small 80 64 slots b) (rw long at (number-lt work d)))
 
-  pub fills-stopped : Below 256 slots → Below 256 work → length work ≡ 80 → (place : ℕ) → (wholePass slots work .place ≡ place) × (place < 64)
-      → (left after : List ℕ) → left ≡ bytes 80 (wholePass slots work .vector) → numbers 80 64 after ≡ set (numbers 80 64 slots) place (number left)
+  pub fills-stopped : Below 256 slots → Below 256 work → length work ≡ 80 → (t : ℕ) → (wholePass slots work .stop ≡ t) × (t < 64)
+      → (left after : List ℕ) → left ≡ bytes 80 (wholePass slots work .vector) → numbers 80 64 after ≡ set (numbers 80 64 slots) t (number left)
       → Fills (length row) slots (number row ∷ []) true after
   unfolding enters entered model
-  fills-stopped b d long place at left after l s =
-      let there : model .place ≡ place = ap (λ (p : Pass). p .place) same ∙ at .0 in
+  fills-stopped b d long t at left after l s =
+      let there : model .stop ≡ t = ap (λ (p : Pass). p .stop) same ∙ at .0 in
       let kept : cut (behind (length row)) (number left) ≡ model .vector = ap (cut (behind (length row))) (ap number l ∙ vector-back b d long) ∙ sym (ap (λ (p : Pass). p .vector) same) in
       fills true after
-      (sym (lt-ltb (model .place) (length (slotsIn (length row) slots)) (omega (arith, width, there, at .1))))
-      (ap (map (cut (behind (length row)))) s ∙ map-set (cut (behind (length row))) (numbers 80 64 slots) place (number left)
+      (sym (lt-ltb (model .stop) (length (slotsIn (length row) slots)) (omega (arith, width, there, at .1))))
+      (ap (map (cut (behind (length row)))) s ∙ map-set (cut (behind (length row))) (numbers 80 64 slots) t (number left)
       ∙ ap₂ (λ (p x : ℕ). set (slotsIn (length row) slots) p x) (sym there) kept)

@@ -53,7 +53,7 @@ module _ (l : ℕ) (ps slots : List ℕ) (S : Stand (8 * l) ps slots) (row : ℕ
 
   enters-stand : enters l slots row ≡ true → Stand (8 * l) (ps ++ (row ∷ [])) (entered l slots row)
   unfolding enters entered
-  enters-stand e = solve-keep l ps slots S row small (ltb-true (pass (8 * l) slots row .place) (length slots) e)
+  enters-stand e = solve-keep l ps slots S row small (ltb-true (pass (8 * l) slots row .stop) (length slots) e)
 
   enters-free : independent (map (constraint l) ps) ≡ true → enters l slots row ≡ true → independent (map (constraint l) (ps ++ (row ∷ []))) ≡ true
   enters-free free e =
@@ -68,7 +68,7 @@ module _ (l : ℕ) (ps slots : List ℕ) (S : Stand (8 * l) ps slots) (row : ℕ
 
 length-entered : (l : ℕ) (slots : List ℕ) (row : ℕ) → length (entered l slots row) ≡ length slots
 unfolding entered
-length-entered l slots row = length-set slots (pass (8 * l) slots row .place) (pass (8 * l) slots row .vector)
+length-entered l slots row = length-set slots (pass (8 * l) slots row .stop) (pass (8 * l) slots row .vector)
 
 fill-right : (l : ℕ) (rows ps slots : List ℕ) → Stand (8 * l) ps slots → independent (map (constraint l) ps) ≡ true
     → Below (2 ^ (8 * l + length slots)) rows → Solving l (ps ++ rows) (fill l slots rows)

@@ -56,7 +56,7 @@ chosen-other role row e = rw (ne-eqb role 2 e)
 -- one row alone; past the last slot nothing is written
 entered-not : (l : ℕ) (slots : List ℕ) (row : ℕ) → enters l slots row ≡ false → entered l slots row ≡ slots
 unfolding enters entered
-entered-not l slots row e = set-out slots (pass (8 * l) slots row .place) (pass (8 * l) slots row .vector) (ltb-false (pass (8 * l) slots row .place) (length slots) e)
+entered-not l slots row e = set-out slots (pass (8 * l) slots row .stop) (pass (8 * l) slots row .vector) (ltb-false (pass (8 * l) slots row .stop) (length slots) e)
 
 pub fill-one : (l : ℕ) (slots : List ℕ) (row : ℕ) → fill l slots (row ∷ []) ≡ leaves (entered l slots row) (enters l slots row)
 unfolding fill

@@ -19,28 +19,28 @@ use Rattle.rows.specs.Range.{InRange}
 use Rattle.rows.proofs.Shape.{shape-range}
 use Rattle.solve.specs.declared.Solved.{Solved}
 use Rattle.solve.specs.declared.Solved.the-variants.{Page, Singular, Misfit}
-use Rattle.solve.specs.Solve.{filled, slotBytes, fits, solveAnswer, solvePage, solveSlots}
+use Rattle.solve.specs.Solve.{filled, slotBytes, solvable, solveAnswer, solvePage, solveSlots}
 use Rattle.solve.specs.Parts.{Roomy, pageAfter}
 
 -- ---- what fits
 
 pub record Fitting (n l : ℕ) (list roles slots page : List ℕ) : Type 0 where
-  pub fit : fits n l list roles slots page ≡ true
+  pub fit : solvable n l list roles slots page ≡ true
   pub range : InRange n l
   pub many : length list / (8 + l) ≤ mostRows
   pub known : length list / (8 + l) ≤ length roles
   pub wide : slotBytes ≤ length slots
   pub room : n * l ≤ length page
 
-fits-so : (n l : ℕ) (list roles slots page : List ℕ) → fits n l list roles slots page ≡ true → Fitting n l list roles slots page
-unfolding fits wholeLength rowCount
+fits-so : (n l : ℕ) (list roles slots page : List ℕ) → solvable n l list roles slots page ≡ true → Fitting n l list roles slots page
+unfolding solvable wholeLength rowCount
 fits-so n l list roles slots page e =
     let a = both (shape n l) _ e in
     let w = both (wholeRows l list) _ (a .1) in
     let b = both (leb (length list / (8 + l)) (length roles)) _ (w .1) in
     let d = both (leb slotBytes (length slots)) (leb (n * l) (length page)) (b .1) in
     record {
-      fit = unfold fits rowCount in e;
+      fit = unfold solvable rowCount in e;
       range = shape-range n l (a .0);
       many = leb-true (length list / (8 + l)) mostRows (both (eqb (length list % (8 + l)) 0) _ (w .0) .1);
       known = leb-true (length list / (8 + l)) (length roles) (b .0);
@@ -49,20 +49,20 @@ fits-so n l list roles slots page e =
     }
 
 -- by the test of it
-pub fitting-so : (n l : ℕ) (list roles slots page : List ℕ) (b : Bool) → b ≡ fits n l list roles slots page → not b ≡ false → Fitting n l list roles slots page
+pub fitting-so : (n l : ℕ) (list roles slots page : List ℕ) (b : Bool) → b ≡ solvable n l list roles slots page → not b ≡ false → Fitting n l list roles slots page
 fitting-so n l list roles slots page b e t = fits-so n l list roles slots page (sym e ∙ not-false b t)
 
 -- ---- the outcome
 
 -- what a call answers and leaves
-abbrev Outcome : ℕ → ℕ → List ℕ → List ℕ → List ℕ → List ℕ → Solved → List ℕ → List ℕ → Type 0
-Outcome n l list roles slots page r slots′ page′ =
+abbrev Ends : ℕ → ℕ → List ℕ → List ℕ → List ℕ → List ℕ → Solved → List ℕ → List ℕ → Type 0
+Ends n l list roles slots page r slots′ page′ =
     (r ≡ solveAnswer n l list roles slots page) × ((slots′ ≡ solveSlots r slots) × (page′ ≡ solvePage r n l list roles page))
 
 module _ (n l : ℕ) (list roles slots page : List ℕ) where
-  pub outcome-misfit : (b : Bool) → b ≡ fits n l list roles slots page → not b ≡ true → Outcome n l list roles slots page Misfit slots page
+  pub outcome-misfit : (b : Bool) → b ≡ solvable n l list roles slots page → not b ≡ true → Ends n l list roles slots page Misfit slots page
   unfolding solveAnswer solveSlots solvePage
-  outcome-misfit b e t = let none : fits n l list roles slots page ≡ false = sym e ∙ not-true b t in (rw none, (refl, refl))
+  outcome-misfit b e t = let none : solvable n l list roles slots page ≡ false = sym e ∙ not-true b t in (rw none, (refl, refl))
 
   module _ (F : Fitting n l list roles slots page) where
     pub part-long : length (take slotBytes slots) ≡ slotBytes
@@ -85,10 +85,10 @@ module _ (n l : ℕ) (list roles slots page : List ℕ) where
             (rw (cleared ∙ ap (λ t. replicate {A = ℕ} (length t) 0) (take-at after (drop slotBytes slots) slotBytes long), long)
             (over-back slotBytes (replicate slotBytes 0) slots (length-replicate {A = ℕ} slotBytes 0)))
 
-        pub outcome-page : b ≡ true → Outcome n l list roles slots page Page (part ++ drop slotBytes (after ++ drop slotBytes slots)) page′
+        pub outcome-page : b ≡ true → Ends n l list roles slots page Page (part ++ drop slotBytes (after ++ drop slotBytes slots)) page′
         unfolding solveAnswer solveSlots solvePage
         outcome-page y = let all : filled l list roles .all ≡ true = sym went ∙ y in (rw (F .fit, all), (slots-are, paged ∙ rw all))
 
-        pub outcome-singular : b ≡ false → Outcome n l list roles slots page Singular (part ++ drop slotBytes (after ++ drop slotBytes slots)) page′
+        pub outcome-singular : b ≡ false → Ends n l list roles slots page Singular (part ++ drop slotBytes (after ++ drop slotBytes slots)) page′
         unfolding solveAnswer solveSlots solvePage
         outcome-singular y = let none : filled l list roles .all ≡ false = sym went ∙ y in (rw (F .fit, none), (slots-are, paged ∙ rw none))

@@ -14,7 +14,7 @@ use Rattle.octets.proofs.Lay.{copied, lay-back}
 use Rattle.octets.proofs.Views.{length-part}
 use Rattle.basis.specs.Algorithm2.{later, pass}
 use Rattle.basis.proofs.Passes.{pass-cases}
-use Rattle.slots.specs.Reducing.{fits, slotsOf, passOf, stopOf, reduceAnswer, reduceWork}
+use Rattle.slots.specs.Reducing.{reducible, slotsOf, passOf, stopOf, reduceAnswer, reduceWork}
 use Rattle.slots.proofs.Fits.{fits-when}
 use Rattle.solve.specs.Solve.{slotBytes}
 use Rattle.solve.specs.Parts.{wholePass}
@@ -26,7 +26,7 @@ slot-bytes = refl
 -- ---- the pass of a vector of 80 bytes
 
 module _ (slots work : List ℕ) (long : length work ≡ 80) (all : length slots ≡ slotBytes) where
-  fit : fits 8 80 (length slots) ≡ true
+  fit : reducible 8 80 (length slots) ≡ true
   fit = fits-when 8 80 (length slots) (record { inside = omega arith; small = omega arith; big = omega (arith, slot-bytes) })
 
   pub whole-answer : reduceAnswer 8 slots work ≡ stopOf 64 (wholePass slots work)

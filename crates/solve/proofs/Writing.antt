@@ -18,13 +18,13 @@ use Rattle.octets.proofs.Views.{part-room, length-part}
 -- n symbols of l bytes are being written: the first k of them stand there
 pub record Writing (n l : ℕ) (f : ℕ → ℕ) (old now : List ℕ) (k at : ℕ) : Type 0 where
   pub within : k ≤ n
-  pub place : at ≡ k * l
+  pub from : at ≡ k * l
   pub long : length now ≡ length old
   pub holds : now ≡ over (flat l (tabulate k f)) old
 
 pub writing-start : (n l : ℕ) (f : ℕ → ℕ) (old : List ℕ) → Writing n l f old old 0 0
 unfolding tabulate flat
-writing-start n l f old = record { within = omega arith; place = sym (zero-mul l); long = refl; holds = sym (over-none old) }
+writing-start n l f old = record { within = omega arith; from = sym (zero-mul l); long = refl; holds = sym (over-none old) }
 
 module _ (n l : ℕ) (f : ℕ → ℕ) (old now : List ℕ) (k at : ℕ) (room : n * l ≤ length old) (W : Writing n l f old now k at) where
   pub writing-end : n ≤ k → now ≡ over (flat l (tabulate n f)) old
@@ -32,7 +32,7 @@ module _ (n l : ℕ) (f : ℕ → ℕ) (old now : List ℕ) (k at : ℕ) (room :
 
   module _ (h : k < n) where
     pub writing-room : at + l ≤ length now
-    writing-room = omega (arith, W .place, W .long, part-room l n k old room h)
+    writing-room = omega (arith, W .from, W .long, part-room l n k old room h)
 
     pub writing-part : length (take (at + l - at) (drop at now)) ≡ l
     writing-part = let wide : at + l - at ≡ l = omega arith in rw wide (length-part l at now writing-room)
@@ -41,13 +41,13 @@ module _ (n l : ℕ) (f : ℕ → ℕ) (old now : List ℕ) (k at : ℕ) (room :
     written = sym (ap (flat l) (tabulate-snoc k f) ∙ flat-snoc l (tabulate k f) (f k))
 
     size : length (flat l (tabulate k f)) ≡ at
-    size = length-flat l (tabulate k f) ∙ ap (λ (j : ℕ). j * l) (length-tabulate k f) ∙ sym (W .place)
+    size = length-flat l (tabulate k f) ∙ ap (λ (j : ℕ). j * l) (length-tabulate k f) ∙ sym (W .from)
 
     pub writing-more : (new : List ℕ) → new ≡ bytes l (f k) → Writing n l f old (take at now ++ (new ++ drop (at + l - at) (drop at now))) (k + 1) (at + l)
     unfolding lay
     writing-more new e = record {
       within = omega arith;
-      place = ap (λ (a : ℕ). a + l) (W .place) ∙ sym (ap (λ (j : ℕ). j * l) (add-one k) ∙ suc-mul k l);
+      from = ap (λ (a : ℕ). a + l) (W .from) ∙ sym (ap (λ (j : ℕ). j * l) (add-one k) ∙ suc-mul k l);
       long = ap length laid ∙ length-lay at new now (rw (ap length e ∙ length-bytes l (f k)) writing-room) ∙ W .long;
       holds = laid ∙ rw (W .holds, e) (lay-over at (flat l (tabulate k f)) (bytes l (f k)) old size ∙ ap (λ t. over t old) written ∙ rw (← add-one k));
     }

@@ -21,11 +21,11 @@ chosen roles rows = select (map (λ role. eqb role 2) roles) rows
 
 -- A row goes in where its pass stops at an empty slot: its constraint is no sum of those before.
 unfoldable pub enters : ℕ → List ℕ → ℕ → Bool
-enters l slots row = ltb (pass (8 * l) slots row .place) (length slots)
+enters l slots row = ltb (pass (8 * l) slots row .stop) (length slots)
 
 -- That slot then holds what the pass left of it.
 unfoldable pub entered : ℕ → List ℕ → ℕ → List ℕ
-entered l slots row = set slots (pass (8 * l) slots row .place) (pass (8 * l) slots row .vector)
+entered l slots row = set slots (pass (8 * l) slots row .stop) (pass (8 * l) slots row .vector)
 
 -- What comes of rows that go in one after the other, up to the first that does not: the slots, and whether all went in.
 pub record Filled : Type 0 where
@@ -64,13 +64,13 @@ unfoldable pub slotBytes : ℕ
 slotBytes = 5632
 
 -- The shape is in range, the list has whole rows, at most 512, and each buffer is long enough.
-unfoldable pub fits : ℕ → ℕ → List ℕ → List ℕ → List ℕ → List ℕ → Bool
-fits n l list roles slots page =
+unfoldable pub solvable : ℕ → ℕ → List ℕ → List ℕ → List ℕ → List ℕ → Bool
+solvable n l list roles slots page =
     shape n l && (wholeRows l list && (leb (rowCount l list) (length roles) && (leb slotBytes (length slots) && leb (n * l) (length page))))
 
--- Where it all fits, whether all rows with role 2 went in: "7 singular: picked constraints dependent".
+-- Where it all fits, whether all rows with role 2 went in; if not it is 7, "picked constraints dependent".
 unfoldable pub solveAnswer : ℕ → ℕ → List ℕ → List ℕ → List ℕ → List ℕ → Solved
-solveAnswer n l list roles slots page = cond (fits n l list roles slots page) (cond (filled l list roles .all) Page Singular) Misfit
+solveAnswer n l list roles slots page = cond (solvable n l list roles slots page) (cond (filled l list roles .all) Page Singular) Misfit
 
 -- The page afterwards: written only where all rows went in.
 unfoldable pub solvePage : Solved → ℕ → ℕ → List ℕ → List ℕ → List ℕ → List ℕ

@@ -7,7 +7,7 @@ ghost use lib.ListN.{length, getD, set};
 ghost use Rattle.octets.specs.Octets.{number, bytes, numbers, flat, over};
 ghost use Rattle.places.specs.Places.{mostRows};
 ghost use Rattle.slots.specs.Reducing.{stopOf};
-ghost use Rattle.solve.specs.Solve.{chosen, filled, symbolIn, pageIn, slotBytes, fits, solveAnswer, solvePage, solveSlots};
+ghost use Rattle.solve.specs.Solve.{chosen, filled, symbolIn, pageIn, slotBytes, solvable, solveAnswer, solvePage, solveSlots};
 ghost use Rattle.solve.specs.Parts.{Ready, wholePass, slotsIn, rowsIn, Fills, unitOf, Roomy, pageAfter};
 use places::Arrival;
 
@@ -27,14 +27,14 @@ pub enum Solved {
 
 // ---- rows that go into slots
 
-// Stores a vector in the slot at a place, and its first eight bytes where reducing looks for them.
-fn store(slots: &mut [u8], place: usize, vector: &[u8])
-    requires { ⌜ (place < 64) × (length (now slots) ≡ slotBytes) × (length (now vector) ≡ 80) ⌝ }
-    ensures { λ _. ⌜ numbers 80 64 (now (slots .exit)) ≡ set (numbers 80 64 (now (slots .entry))) place (number (now (vector .entry))) ⌝ }
+// Stores a vector in slot t, and its first eight bytes where reducing looks for them.
+fn store(slots: &mut [u8], t: usize, vector: &[u8])
+    requires { ⌜ (t < 64) × (length (now slots) ≡ slotBytes) × (length (now vector) ≡ 80) ⌝ }
+    ensures { λ _. ⌜ numbers 80 64 (now (slots .exit)) ≡ set (numbers 80 64 (now (slots .entry))) t (number (now (vector .entry))) ⌝ }
 {
-    let at = place * VECTOR;
+    let at = t * VECTOR;
     let end = at + VECTOR;
-    let h = HEADS + 8 * (63 - place);
+    let h = HEADS + 8 * (63 - t);
     let i = h + 8;
     octets::copy(&mut slots[at..end], vector);
     words::put_little(&mut slots[h..i], words::word(vector, 0));
@@ -56,8 +56,8 @@ fn enter(slots: &mut [u8], work: &mut [u8], row: &[u8]) -> bool
 {
     octets::copy(work, row);
     match pass(work, slots) {
-        slots::Reduced::Stopped(place) => {
-            store(slots, place, work);
+        slots::Reduced::Stopped(t) => {
+            store(slots, t, work);
             true
         }
         slots::Reduced::Spent => false,
@@ -171,7 +171,7 @@ fn write_page(
 
 // Whether the shape is in range, the list has whole rows, and each buffer is long enough.
 fn fitting(n: u8, l: u8, list: &[u8], roles: &[u8], slots: &[u8], page: &[u8]) -> bool
-    ensures { λ r. ⌜ r ≡ fits n l (now (list .entry)) (now (roles .entry)) (now (slots .entry)) (now (page .entry)) ⌝ }
+    ensures { λ r. ⌜ r ≡ solvable n l (now (list .entry)) (now (roles .entry)) (now (slots .entry)) (now (page .entry)) ⌝ }
 {
     if !rows::shaped(n, l) {
         return false;

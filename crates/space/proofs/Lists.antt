@@ -5,9 +5,10 @@ use Prim.Native.Nat.{ℕ, zero, suc, _≤_, _<_}
 use native.Mathlib.Nat.{zero-lt-suc}
 use native.Mathlib.Omega.{arith}
 use mathlib.Core.Bool.{Bool, true, false, cond}
-use mathlib.Core.List.{List, [], _∷_, _++_, map, List·Memᴰ, List·Memᴰ·head, List·Memᴰ·tail}
+use mathlib.Core.List.{List, [], _∷_, _++_, map, List·Memᴰ, List·Memᴰ·head, List·Memᴰ·tail, List·Memᴰ·not-nil, List·Memᴰ·cases-cons}
+use mathlib.Core.Logic.{⊎-elim}
 use lib.ListN.{length, set, getD}
-use Rattle.space.specs.Lists.{select, marked, count, tabulate, All, Below}
+use Rattle.space.specs.Lists.{select, marked, count, above, tabulate, All, Below}
 
 -- ---- map
 
@@ -130,6 +131,24 @@ count-snoc p (y ∷ xs) x = rw (count-snoc p xs x) (go (p x) (p y))
     go true true = refl
     go true false = refl
     go false b = refl
+
+pub count-marked : (p : ℕ → Bool) (xs : List ℕ) → marked (map p xs) ≡ count p xs
+unfolding count marked
+count-marked p [] = refl
+count-marked p (x ∷ xs) = rw (count-marked p xs)
+
+-- ---- above
+
+-- it is above each, and the least that is
+pub above-each : (xs : List ℕ) (x : ℕ) → List·Memᴰ x xs → x < above xs
+unfolding above
+above-each [] x m = absurd (List·Memᴰ·not-nil m)
+above-each (y ∷ xs) x m = ⊎-elim (λ e. omega arith) (λ k. omega (arith, above-each xs x k)) (List·Memᴰ·cases-cons m)
+
+pub above-least : (xs : List ℕ) (t : ℕ) → ((x : ℕ) → List·Memᴰ x xs → x < t) → above xs ≤ t
+unfolding above
+above-least [] t h = omega arith
+above-least (x ∷ xs) t h = omega (arith, h x (List·Memᴰ·head refl), above-least xs t (λ y m. h y (List·Memᴰ·tail m)))
 
 -- ---- tabulate
 

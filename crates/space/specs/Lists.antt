@@ -1,5 +1,5 @@
 -- Words about lists that the definitions of every crate use.
-use Prim.Native.Nat.{ℕ, zero, suc, _<_}
+use Prim.Native.Nat.{ℕ, zero, suc, max, _<_}
 use mathlib.Core.Path.{_≡_}
 use mathlib.Core.Bool.{Bool, true, false, cond}
 use mathlib.Core.List.{List, [], _∷_}
@@ -20,6 +20,11 @@ marked (b ∷ bs) = cond b (suc (marked bs)) (marked bs)
 unfoldable pub count : (ℕ → Bool) → List ℕ → ℕ
 count p [] = 0
 count p (x ∷ xs) = cond (p x) (suc (count p xs)) (count p xs)
+
+-- One more than the largest; 0 where there is none.
+unfoldable pub above : List ℕ → ℕ
+above [] = 0
+above (x ∷ xs) = max (suc x) (above xs)
 
 -- The values of f at 0, 1 and so on, n of them.
 unfoldable pub tabulate : ℕ → (ℕ → ℕ) → List ℕ

@@ -17,8 +17,8 @@ settled-requires c κs = search needs
 two-draws-requires : tie.Need-two-draws-requires
 two-draws-requires c κs = search needs
 
-lowest-requires : tie.Need-lowest-requires
-lowest-requires c κs = search needs
+low-requires : tie.Need-low-requires
+low-requires c κs = search needs
 
 rem-result : tie.Need-rem-result
 rem-result c = search needs
@@ -45,8 +45,8 @@ returns-2 : tie.Need-returns-2
 unfolding constraint
 returns-2 c =
     let start = c .before .before .before .before .args in
-    let low-is : c .before .lowest .result ≡ twoDraws (settled (start .seed)) % 2 ^ start .n = cc in
-    rw (← low-is, ne-eqb (c .before .lowest .result) 0 (c .if1 .left))
+    let low-is : c .before .low .result ≡ twoDraws (settled (start .seed)) % 2 ^ start .n = cc in
+    rw (← low-is, ne-eqb (c .before .low .result) 0 (c .if1 .left))
 
 pub constraint-spec : {M : Type 1} → statement M
 constraint-spec =
@@ -54,7 +54,7 @@ constraint-spec =
     (tie.spec
     settled-requires
     two-draws-requires
-    lowest-requires
+    low-requires
     rem-result
     cast-result
     shl-result

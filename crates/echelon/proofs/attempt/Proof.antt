@@ -10,9 +10,9 @@ use lib.ListN.{length, take, replicate, length-replicate}
 use Rattle.octets.specs.Octets.{number, bytes, over}
 use Rattle.octets.proofs.Loaded.{loaded-is}
 use Rattle.basis.specs.Algorithm2.{Pass}
-use Rattle.slots.specs.Reducing.{fits, passOf}
+use Rattle.slots.specs.Reducing.{reducible, passOf}
 use Rattle.slots.proofs.Fits.{swept}
-use Rattle.slots.proofs.Stopping.{place-stopped, place-spent, place-misfit}
+use Rattle.slots.proofs.Stopping.{stop-stopped, stop-spent, stop-misfit}
 use Rattle.echelon.specs.State.{vectorBytes, passIn}
 use Rattle.echelon.proofs.Places.{sizes, fits-row, pass-loaded}
 use Rattle.echelon.proofs.attempt.Statement.{statement}
@@ -71,7 +71,7 @@ module _ (c : tie.After-slice-known3) where
   wide : length vector ≡ vectorBytes
   wide = c .before .before .before .before .before .before .before .copy .kept .0 ∙ ap length (S .pre .0) ∙ length-replicate {A = ℕ} vectorBytes 0
 
-  fitting : fits (length row) (length vector) (length state) ≡ true
+  fitting : reducible (length row) (length vector) (length state) ≡ true
   fitting = rw wide (fits-row (length row) (length state) (S .pre .1) (S .pre .2))
 
   passed : passOf (length row) state vector ≡ passIn (length row) (number row) state
@@ -87,7 +87,7 @@ same-length c = search needs
 returns : tie.Need-returns
 returns c =
     let K = c .before .before .before in
-    (place-stopped (length (row K)) (state K) (vector K) (fitting K) _ (sym (c .before .t .given .1) ∙ K .before .before .reduce .ensures .0) ∙ ap (λ (q : Pass). q .place) (passed K), left K)
+    (stop-stopped (length (row K)) (state K) (vector K) (fitting K) _ (sym (c .before .t .given .1) ∙ K .before .before .reduce .ensures .0) ∙ ap (λ (q : Pass). q .stop) (passed K), left K)
 
 same-length-2 : tie.Need-same-length-2
 same-length-2 c = search needs
@@ -95,7 +95,7 @@ same-length-2 c = search needs
 returns-2 : tie.Need-returns-2
 returns-2 c =
     let K = c .before .before in
-    (place-spent (length (row K)) (state K) (vector K) (fitting K) (sym (c .enum-told .given .1) ∙ K .before .before .reduce .ensures .0) ∙ ap (λ (q : Pass). q .place) (passed K), left K)
+    (stop-spent (length (row K)) (state K) (vector K) (fitting K) (sym (c .enum-told .given .1) ∙ K .before .before .reduce .ensures .0) ∙ ap (λ (q : Pass). q .stop) (passed K), left K)
 
 same-length-3 : tie.Need-same-length-3
 same-length-3 c = search needs
@@ -103,7 +103,7 @@ same-length-3 c = search needs
 returns-3 : tie.Need-returns-3
 returns-3 c =
     let K = c .before .before in
-    absurd (place-misfit (length (row K)) (state K) (vector K) (fitting K) (sym (c .enum-told2 .given .1) ∙ K .before .before .reduce .ensures .0))
+    absurd (stop-misfit (length (row K)) (state K) (vector K) (fitting K) (sym (c .enum-told2 .given .1) ∙ K .before .before .reduce .ensures .0))
 
 pub attempt-spec : {M : Type 1} → statement M
 attempt-spec =

@@ -1,4 +1,4 @@
--- `give_place` meets its contract: the place is written at the arrival, and zero at its uses.
+-- `give_place` meets its contract: the kept place is written at the arrival, and zero at its uses.
 -- Assumes nothing.
 use mathlib.Core.Path.{_≡_, ap, _∙_}
 use mathlib.Core.List.{List}

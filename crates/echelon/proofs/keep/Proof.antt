@@ -1,4 +1,4 @@
--- `keep` meets its contract: the place is given, then the head and the vector are laid.
+-- `keep` meets its contract: the kept place is given, then the head and the vector are laid.
 -- Assumes nothing.
 use mathlib.Core.Path.{ap, _∙_}
 use Prim.Native.Nat.{ℕ, _*_, _^_}
@@ -13,7 +13,7 @@ use Rattle.echelon.proofs.keep.Tie as tie
 give-place-requires : tie.Need-give-place-requires
 give-place-requires c κs =
     let K = c .before .before .before .pre .0 in
-    (K .arrival, K .place, K .whole)
+    (K .arrival, K .rank, K .whole)
 
 put-head-requires : tie.Need-put-head-requires
 put-head-requires c κs =
@@ -24,7 +24,7 @@ put-vector-requires : tie.Need-put-vector-requires
 put-vector-requires c κs =
     let S = c .before .before .before .before .before .before .before .before .before .before .before in
     let K = S .pre .0 in
-    (omega (arith, K .slot, K .place), rw (c .before .before .before .before .before .before .before .give-place .ensures .0) (K .place), omega (arith, c .before .before .before .put-head .kept .0, c .before .before .before .before .before .before .before .give-place .kept .0, K .whole), S .pre .1)
+    (omega (arith, K .slot, K .rank), rw (c .before .before .before .before .before .before .before .give-place .ensures .0) (K .rank), omega (arith, c .before .before .before .put-head .kept .0, c .before .before .before .before .before .before .before .give-place .kept .0, K .whole), S .pre .1)
 
 same-length : tie.Need-same-length
 same-length c = search needs

@@ -1,4 +1,4 @@
--- `take_in` meets its contract: the vector that the pass leaves is kept or counted, and nothing is written where no place is left.
+-- `take_in` meets its contract: the vector that the pass leaves is kept or counted, and nothing is written where no kept place is left.
 -- Assumes nothing.
 use native.Mathlib.Omega.{arith}
 use borrow.Author.Needs.{needs}
@@ -45,7 +45,7 @@ part-count-end c = omega (arith, sizes, long (c .before .before .before .before 
 count-requires : tie.Need-count-requires
 count-requires c κs =
     let S = c .before .before .before .before .before .before .before .before .before .before .before .before in
-    (simp (length-take, length-drop) (omega (arith, sizes, long (c .before .before .before .before .before .before))), fit S .arrival, fit S .place, fit S .whole)
+    (simp (length-take, length-drop) (omega (arith, sizes, long (c .before .before .before .before .before .before))), fit S .arrival, fit S .rank, fit S .whole)
 
 same-length : tie.Need-same-length
 same-length c = search needs
@@ -63,7 +63,7 @@ returns c =
       sym (ap (λ (o : Absorption). o .answer) e),
       c .before .before .count .ensures
           ∙ counted-same _ (p .vector) (A .arrival .0) (A .rank) (A .state .now)
-          (tail-digits (p .vector) (A .rank) (a .last .0) (a .ensures .1) (fit S .place))
+          (tail-digits (p .vector) (A .rank) (a .last .0) (a .ensures .1) (fit S .rank))
           ∙ sym (ap (λ (o : Absorption). o .state) e),
     )
 
@@ -74,7 +74,7 @@ keep-requires c κs =
       record {
         slot = omega (arith, fit S .high, c .before .before .before .if1 .left);
         arrival = fit S .arrival;
-        place = c .before .before .if2 .taken;
+        rank = c .before .before .if2 .taken;
         whole = fit S .whole;
       },
       long (c .before .before .before .before .before .before),

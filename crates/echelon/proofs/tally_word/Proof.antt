@@ -1,4 +1,4 @@
--- `tally_word` meets its contract: each turn raises the uses at the place of the lowest set bit that is left.
+-- `tally_word` meets its contract: each turn raises the uses of the kept place of the lowest set bit that is left.
 -- Assumes nothing.
 use Prim.Native.Nat.{_+_, _/_, _<_}
 use native.Mathlib.Omega.{arith}
@@ -19,7 +19,7 @@ loop-holds c = counting-start _ _ _
 bottom-requires : tie.Need-bottom-requires Inv-loop μ-loop
 bottom-requires c κs = tt
 
--- the bit stands at a place of the uses
+-- the bit stands for a kept place
 inside : (c : tie.After-bottom Inv-loop μ-loop) → c .before .before .before .before .before .args .j + c .bottom .result < length (c .before .before .before .before .before .args .uses .now) / 2
 inside c =
     let S = c .before .before .before .before .before in

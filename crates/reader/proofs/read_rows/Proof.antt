@@ -11,7 +11,7 @@ use lib.Seq.{length-take-le}
 use Rattle.reading.specs.Outcome.{scratchBytes}
 use Rattle.echelon.specs.State.{stateBytes}
 use Rattle.solve.specs.Solve.{slotBytes}
-use Rattle.reader.proofs.Ending.{room, listed, solvable, read-ends, part-long, cleared}
+use Rattle.reader.proofs.Ending.{room, listed, is-solvable, read-ends, part-long, cleared}
 use Rattle.reader.proofs.read_rows.Statement.{statement}
 use Rattle.reader.proofs.read_rows.Tie as tie
 
@@ -52,7 +52,7 @@ conclude-requires c κs =
     let slots : List ℕ = take 5632 (K .last .1 .1 .1 .1 .1 .0 ++ drop 29824 (S .args .scratch .now)) in
     let long : 5632 ≤ length slots =
     le-of-eq (sym (length-take-le 5632 (K .last .1 .1 .1 .1 .1 .0 ++ drop 29824 (S .args .scratch .now)) (omega (arith, first-long (c .before .before .before .before .before .before .before .before .before), wide S)))) in
-    λ k. solvable _ _ _ _ (S .pre) _ _ _ _ (K .ensures) k slots long (K .kept .1 .1 .1 .1 .0)
+    λ k. is-solvable _ _ _ _ (S .pre) _ _ _ _ (K .ensures) k slots long (K .kept .1 .1 .1 .1 .0)
 
 -- and after the second
 second-long : (c : tie.After-conclude)

@@ -71,11 +71,11 @@ module _ (c : tie.After-top Inv-loop μ-loop) where
   abbrev x : ℕ
   x = c .before .before .loop .x
 
-  abbrev place : ℕ
-  place = 8 * S .args .g + 63 - c .top .result
+  abbrev slot-at : ℕ
+  slot-at = 8 * S .args .g + 63 - c .top .result
 
   abbrev slot : List ℕ
-  slot = take W (drop (place * W) ss)
+  slot = take W (drop (slot-at * W) ss)
 
   known : Below 256 ss
   known = known-below ss (c .before .before .before .before .before .shared-slice-known .given)
@@ -86,19 +86,19 @@ module _ (c : tie.After-top Inv-loop μ-loop) where
   lower : 2 ^ c .top .result ≤ x
   lower = turn-lower (S .args .key) W ss (fit S) known whole (S .args .g) work x (c .before .before .loop .inv) (c .before .loop-test .taken) (c .top .result) (c .top .ensures)
 
-  module _ (h : place < 8 * S .args .key) where
-    room : place * W + W ≤ length ss
+  module _ (h : slot-at < 8 * S .args .key) where
+    room : slot-at * W + W ≤ length ss
     room = turn-room (S .args .key) W ss (fit S) known whole (S .args .g) work x (c .before .before .loop .inv) (c .before .loop-test .taken) (c .top .result) (c .top .ensures) h
 
     wide : length slot ≡ W
     wide = turn-wide (S .args .key) W ss (fit S) known whole (S .args .g) work x (c .before .before .loop .inv) (c .before .loop-test .taken) (c .top .result) (c .top .ensures) h
 
     -- the part that is lent is the slot
-    part-is : take (place * W + W - place * W) (drop (place * W) ss) ≡ slot
-    part-is = rw (add-sub-cancel-left (place * W) W)
+    part-is : take (slot-at * W + W - slot-at * W) (drop (slot-at * W) ss) ≡ slot
+    part-is = rw (add-sub-cancel-left (slot-at * W) W)
 
-    fits : place * W + W < 2 ^ 64
-    fits = slot-end (S .args .key) W (length ss) place (fit S) h
+    fits : slot-at * W + W < 2 ^ 64
+    fits = slot-end (S .args .key) W (length ss) slot-at (fit S) h
 
     more : digit (c .top .result) (wordAt (S .args .g) slot) ≡ true
         → Grouping (S .args .key) W ss whole (S .args .g) (addFront work slot) (bitXor x (wordAt (S .args .g) slot) % 2 ^ c .top .result)
@@ -157,7 +157,7 @@ returns-2 : tie.Need-returns-2 Inv-loop μ-loop
 returns-2 c =
     let t = c .before .before .before .before .before in
     let h = c .before .before .before .before .if1 .left in
-    grouped-stop (S t .args .key) (ss t) (S t .args .work .now) (work t) (S t .args .g) (place t) h (omega (arith, small t))
+    grouped-stop (S t .args .key) (ss t) (S t .args .work .now) (work t) (S t .args .g) (slot-at t) h (omega (arith, small t))
     (turn-stop (S t .args .key) (W t) (ss t) (fit (S t)) (known t) (whole t) (S t .args .g) (work t) (x t) (t .before .before .loop .inv) (t .before .loop-test .taken) (t .top .result) (t .top .ensures) h
     (sym (tested (c .before)) ∙ not-true (c .before .has .result) (c .if2 .taken)))
 

@@ -1,4 +1,4 @@
--- `group_80` meets its contract: the walk is the pass over the places, in registers; astray, the pass is made in memory from the start.
+-- `group_80` meets its contract: the walk is the pass over the slots, in registers; astray, the pass is made in memory from the start.
 -- Assumes nothing.
 use borrow.Author.Needs.{needs}
 use mathlib.Core.Path.{_≡_, refl, sym, ap, _∙_}

@@ -70,11 +70,11 @@ module _ (c : tie.After-top Inv-loop μ-loop) where
   abbrev x : ℕ
   x = c .before .before .loop .x
 
-  abbrev place : ℕ
-  place = 8 * S .args .g + 63 - c .top .result
+  abbrev slot-at : ℕ
+  slot-at = 8 * S .args .g + 63 - c .top .result
 
   abbrev slot : List ℕ
-  slot = take 80 (drop (place * 80) ss)
+  slot = take 80 (drop (slot-at * 80) ss)
 
   known : Below 256 ss
   known = known-below ss (c .before .before .before .before .shared-slice-known .given)
@@ -85,16 +85,16 @@ module _ (c : tie.After-top Inv-loop μ-loop) where
   lower : 2 ^ c .top .result ≤ x
   lower = turn-lower (S .args .key) 80 ss (fit S) known whole (S .args .g) work x (c .before .before .loop .inv) (c .before .loop-test .taken) (c .top .result) (c .top .ensures)
 
-  module _ (h : place < 8 * S .args .key) where
-    room : place * 80 + 80 ≤ length ss
+  module _ (h : slot-at < 8 * S .args .key) where
+    room : slot-at * 80 + 80 ≤ length ss
     room = turn-room (S .args .key) 80 ss (fit S) known whole (S .args .g) work x (c .before .before .loop .inv) (c .before .loop-test .taken) (c .top .result) (c .top .ensures) h
 
     -- the part that is lent is the slot
-    part-is : take (place * 80 + 80 - place * 80) (drop (place * 80) ss) ≡ slot
-    part-is = rw (add-sub-cancel-left (place * 80) 80)
+    part-is : take (slot-at * 80 + 80 - slot-at * 80) (drop (slot-at * 80) ss) ≡ slot
+    part-is = rw (add-sub-cancel-left (slot-at * 80) 80)
 
-    fits : place * 80 + 80 < 2 ^ 64
-    fits = slot-end (S .args .key) 80 (length ss) place (fit S) h
+    fits : slot-at * 80 + 80 < 2 ^ 64
+    fits = slot-end (S .args .key) 80 (length ss) slot-at (fit S) h
 
     -- added in registers as in memory
     added : bytesOf (plusOf (c .before .before .loop .v) (vectorOf slot)) ≡ addFront work slot
@@ -102,7 +102,7 @@ module _ (c : tie.After-top Inv-loop μ-loop) where
         let wide : length slot ≡ 80 =
         turn-wide (S .args .key) 80 ss (fit S) known whole (S .args .g) work x (c .before .before .loop .inv) (c .before .loop-test .taken) (c .top .result) (c .top .ensures) h in
         bytesOf-plus (c .before .before .loop .v) (vectorOf slot)
-        ∙ rw (bytesOf-load slot wide (below-parts 256 80 (drop (place * 80) ss) (below-parts 256 (place * 80) ss known .1) .0))
+        ∙ rw (bytesOf-load slot wide (below-parts 256 80 (drop (slot-at * 80) ss) (below-parts 256 (slot-at * 80) ss known .1) .0))
         (sym (addFront-whole work slot (length-bytesOf (c .before .before .loop .v) ∙ sym wide)))
 
     more : digit (c .top .result) (wordAt (S .args .g) slot) ≡ true
@@ -187,7 +187,7 @@ returns-4 c =
     let h = c .before .before .before .before .before .before .before .before .if1 .left in
     let none : digit (t .top .result) (wordAt (S t .args .g) (slot t)) ≡ false =
     ap (digit (t .top .result)) (sym (head-is (c .before .before .before))) ∙ sym (c .before .has .ensures) ∙ c .if4 .left in
-    grouped-stop (S t .args .key) (ss t) (before (S t)) (work t) (S t .args .g) (place t) h (omega (arith, small t))
+    grouped-stop (S t .args .key) (ss t) (before (S t)) (work t) (S t .args .g) (slot-at t) h (omega (arith, small t))
     (rw (long (S t)) (turn-stop (S t .args .key) 80 (ss t) (fit (S t)) (known t) (whole t) (S t .args .g) (work t) (x t) (t .before .before .loop .inv) (t .before .loop-test .taken) (t .top .result) (t .top .ensures) h none))
 
 sub-load : tie.Need-sub-load Inv-loop μ-loop

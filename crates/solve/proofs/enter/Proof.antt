@@ -40,12 +40,12 @@ module _ (c : tie.After-pass) where
   front : cut (behind (length row)) (number vector) ≡ number row
   front = ap (λ (v : List ℕ). cut (behind (length row)) (number v)) (c .before .before .before .before .before .copy .ensures) ∙ row-front row (S .args .work .now) (known-below (S .args .work .now) (c .before .before .before .before .before .before .before .before .slice-known2 .given)) (S .pre .one) (S .pre .most)
 
-enum-known-place : tie.Need-enum-known-place
-enum-known-place c = search needs
+enum-known-t : tie.Need-enum-known-t
+enum-known-t c = search needs
 
 -- where it stopped
-stop : (c : tie.After-place) → (wholePass (slots (c .before .before .before .before)) (vector (c .before .before .before .before)) .place ≡ c .place .given .0 .0) × (c .place .given .0 .0 < 64)
-stop c = stopped-at 64 (wholePass (slots (c .before .before .before .before)) (vector (c .before .before .before .before))) (c .place .given .0 .0) (sym (c .before .before .before .before .pass .ensures .0) ∙ c .place .given .1)
+stop : (c : tie.After-t) → (wholePass (slots (c .before .before .before .before)) (vector (c .before .before .before .before)) .stop ≡ c .t .given .0 .0) × (c .t .given .0 .0 < 64)
+stop c = stopped-at 64 (wholePass (slots (c .before .before .before .before)) (vector (c .before .before .before .before))) (c .t .given .0 .0) (sym (c .before .before .before .before .pass .ensures .0) ∙ c .t .given .1)
 
 store-requires : tie.Need-store-requires
 store-requires c κs = (stop (c .before .before .before) .1, S (c .before .before .before .before .before .before .before) .pre .all, c .before .before .before .before .before .before .before .pass .kept .0 ∙ long (c .before .before .before .before .before .before .before))
@@ -66,7 +66,7 @@ returns : tie.Need-returns
 returns c =
     let K = c .before .before .before .before .before .before .before .before .before .before in
     fills-stopped (slots K) (vector K) (row K) (S K .pre .least) (S K .pre .most) (front K) (known-below (slots K) (K .before .before .before .before .before .before .before .before .before .slice-known .given)) (known-below (vector K) (K .before .before .before .slice-known3 .given)) (long K)
-    (c .before .before .before .before .before .before .place .given .0 .0) (stop (c .before .before .before .before .before .before)) (K .pass .last .0) (c .before .before .store .last .0) (K .pass .ensures .1) (c .before .before .store .ensures)
+    (c .before .before .before .before .before .before .t .given .0 .0) (stop (c .before .before .before .before .before .before)) (K .pass .last .0) (c .before .before .store .last .0) (K .pass .ensures .1) (c .before .before .store .ensures)
 
 same-length-3 : tie.Need-same-length-3
 same-length-3 c = search needs
@@ -97,7 +97,7 @@ enter-spec =
     (tie.spec
     copy-requires
     pass-requires
-    enum-known-place
+    enum-known-t
     store-requires
     enum-told
     enum-told-2

@@ -10,7 +10,7 @@ use borrow.Author.Tests.{le-leb, lt-leb, not-true, not-false}
 use lib.ListN.{length}
 use Rattle.rows.specs.Rows.{shape, rowCount}
 use Rattle.reading.specs.Outcome.{wholeRows}
-use Rattle.solve.specs.Solve.{fits, slotBytes}
+use Rattle.solve.specs.Solve.{solvable, slotBytes}
 use Rattle.solve.proofs.fitting.Statement.{statement}
 use Rattle.solve.proofs.fitting.Tie as tie
 
@@ -18,7 +18,7 @@ shaped-requires : tie.Need-shaped-requires
 shaped-requires c κs = search needs
 
 returns : tie.Need-returns
-unfolding fits
+unfolding solvable
 returns c = simp (sym (c .before .shaped .ensures) ∙ not-true (c .before .shaped .result) (c .if1 .taken))
 
 whole-requires : tie.Need-whole-requires
@@ -29,7 +29,7 @@ in-shape : (c : tie.Else1) → shape (c .before .before .before .before .before 
 in-shape c = sym (c .before .shaped .ensures) ∙ not-false (c .before .shaped .result) (c .if1 .left)
 
 returns-2 : tie.Need-returns-2
-unfolding fits
+unfolding solvable
 returns-2 c = simp (in-shape (c .before .before), sym (c .before .whole .ensures) ∙ not-true (c .before .whole .result) (c .if2 .taken))
 
 add-w : tie.Need-add-w
@@ -49,13 +49,13 @@ in-rows : (c : tie.Else2) → wholeRows (c .before .before .before .before .befo
 in-rows c = sym (c .before .whole .ensures) ∙ not-false (c .before .whole .result) (c .if2 .left)
 
 returns-3 : tie.Need-returns-3
-unfolding fits rowCount
+unfolding solvable rowCount
 returns-3 c =
     let A = c .before .before .before .before .before .before .before .before .before .args in
     simp (in-shape (c .before .before .before), in-rows (c .before), lt-leb (length (A .list .now) / (8 + A .l)) (length (A .roles .now)) (c .if3 .taken))
 
 returns-4 : tie.Need-returns-4
-unfolding fits rowCount slotBytes
+unfolding solvable rowCount slotBytes
 returns-4 c =
     let A = c .before .before .before .before .before .before .before .before .before .before .args in
     simp (
@@ -66,7 +66,7 @@ returns-4 c =
     )
 
 returns-5 : tie.Need-returns-5
-unfolding fits rowCount slotBytes
+unfolding solvable rowCount slotBytes
 returns-5 c =
     let A = c .before .before .before .before .before .before .before .before .before .before .args in
     simp (

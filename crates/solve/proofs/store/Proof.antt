@@ -1,4 +1,4 @@
--- `store` meets its contract: the vector is laid at its place, no slot on either side changes, and the head stands behind them all.
+-- `store` meets its contract: the vector is laid in its slot, no slot on either side changes, and the head stands behind them all.
 -- Assumes nothing.
 use mathlib.Core.Path.{_≡_, ap, _∙_}
 use Prim.Native.Nat.{ℕ, _+_, _*_, _-_, _≤_}
@@ -16,8 +16,8 @@ use Rattle.solve.proofs.Slots.{slot-bytes, part-copied}
 use Rattle.solve.proofs.store.Statement.{statement}
 use Rattle.solve.proofs.store.Tie as tie
 
-room : (c : tie.Start) → c .args .place * 80 + 80 ≤ length (c .args .slots .now)
-room c = part-room 80 64 (c .args .place) (c .args .slots .now) (omega (arith, slot-bytes, c .pre)) (c .pre .0)
+room : (c : tie.Start) → c .args .t * 80 + 80 ≤ length (c .args .slots .now)
+room c = part-room 80 64 (c .args .t) (c .args .slots .now) (omega (arith, slot-bytes, c .pre)) (c .pre .0)
 
 mul-at : tie.Need-mul-at
 mul-at c = search needs
@@ -61,16 +61,16 @@ module _ (c : tie.After-copy) where
   S = c .before .before .before .before
 
   abbrev laid : List ℕ
-  laid = lay (S .args .place * 80) (S .args .vector .now) (S .args .slots .now)
+  laid = lay (S .args .t * 80) (S .args .vector .now) (S .args .slots .now)
 
-  is-laid : putMid (S .args .place * 80) (S .args .place * 80 + 80 - S .args .place * 80) (S .args .slots .now) (c .copy .last .0) ≡ laid
+  is-laid : putMid (S .args .t * 80) (S .args .t * 80 + 80 - S .args .t * 80) (S .args .slots .now) (c .copy .last .0) ≡ laid
   is-laid =
-      let at : ℕ = S .args .place * 80 in
+      let at : ℕ = S .args .t * 80 in
       let size : at + 80 - at ≡ 80 = omega arith in
       part-copied 80 at (at + 80 - at) (S .args .slots .now) (S .args .vector .now) (c .copy .last .0) size (room S) (S .pre .2) (c .copy .ensures)
 
   long : length laid ≡ 5632
-  long = length-lay (S .args .place * 80) (S .args .vector .now) (S .args .slots .now) (omega (arith, room S, S .pre)) ∙ S .pre .1 ∙ slot-bytes
+  long = length-lay (S .args .t * 80) (S .args .vector .now) (S .args .slots .now) (omega (arith, room S, S .pre)) ∙ S .pre .1 ∙ slot-bytes
 
 part-put-little-end : tie.Need-part-put-little-end
 part-put-little-end c = omega (arith, ap length (is-laid (c .before .before)), long (c .before .before))
@@ -88,12 +88,12 @@ returns : tie.Need-returns
 returns c =
     let K = c .before .before .before .before .before .before .before in
     let s = S K in
-    let h : ℕ = 5120 + 8 * (63 - s .args .place) in
+    let h : ℕ = 5120 + 8 * (63 - s .args .t) in
     let head : List ℕ = c .before .before .put-little .last .0 in
     let eight : h + 8 - h ≡ 8 = omega arith in
     let size : length head ≡ h + 8 - h = c .before .before .put-little .kept .0 ∙ rw (is-laid K, eight) (length-part 8 h (laid K) (omega (arith, long K))) in
     rw (is-laid K) (ap (numbers 80 64) (back h (h + 8 - h) head (laid K) size) ∙ numbers-before 80 64 h head (laid K) (omega arith) (omega (arith, long K))
-    ∙ numbers-lay 80 64 (s .args .place) (s .args .vector .now) (s .args .slots .now) (s .pre .2) (s .pre .0) (omega (arith, slot-bytes, s .pre)))
+    ∙ numbers-lay 80 64 (s .args .t) (s .args .vector .now) (s .args .slots .now) (s .pre .2) (s .pre .0) (omega (arith, slot-bytes, s .pre)))
 
 pub store-spec : {M : Type 1} → statement M
 store-spec =
