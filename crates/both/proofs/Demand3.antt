@@ -10,11 +10,11 @@ use borrow.Author.Tests.{not-false}
 use Rattle.space.specs.Lists.{Below, select}
 use Rattle.space.specs.Space.{independent}
 use Rattle.octets.specs.Octets.{flat, over}
-use Rattle.octets.proofs.Runs.{length-flat, flat-numbers, take-over, over-over}
+use Rattle.octets.proofs.Runs.{length-flat, take-over, over-over}
 use Rattle.rows.specs.Rows.{symbols, rowBytes, rowsOf, constraint, agrees}
 use Rattle.rows.specs.Shift.{shifted, shiftedList, plus}
 use Rattle.rows.proofs.Lists.{rows-flat, rows-below}
-use Rattle.rows.proofs.Pages.{length-symbols, symbols-below}
+use Rattle.rows.proofs.Pages.{length-symbols, symbols-below, flat-symbols}
 use Rattle.rows.proofs.Shifts.{shifted-agrees, length-shiftedList, rows-shiftedList}
 use Rattle.reading.specs.Reading.{singular, pickedRows, pageOf}
 use Rattle.reading.specs.Outcome.{Lent, Outcome, passes, checks, after, read, gave}
@@ -62,11 +62,8 @@ module _ (n l : ℕ) (page : List ℕ) (size : length page ≡ n * l) (bytes : B
   q-below : Below (2 ^ (8 * l)) q
   q-below = symbols-below n l page size bytes
 
-  spelled : flat l q ≡ page
-  spelled = unfold symbols in flat-numbers l n page size bytes
-
   read-moved : (rows : List ℕ) (lent : Lent) → Below (2 ^ n) (map (constraint l) rows) → read n l (map (shifted l q) rows) lent ≡ added page (read n l rows lent)
-  read-moved rows lent within = moved-read n l q (length-symbols n l page) q-below rows within page spelled lent
+  read-moved rows lent within = moved-read n l q (length-symbols n l page) q-below rows within page (flat-symbols n l page size bytes) lent
 
   alone-moved : (o : Outcome) (s : Second) → gave o ≡ false → alone (added page o) s ≡ addedBoth n l page (alone o s)
   unfolding alone addedBoth added gave

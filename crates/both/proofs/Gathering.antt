@@ -20,7 +20,7 @@ use Rattle.rows.specs.Make.{cut, bytesAgree}
 use Rattle.rows.proofs.Lists.{length-rowsOf}
 use Rattle.rows.proofs.Written.{bytesAgree-row}
 use Rattle.both.specs.Both.{apart}
-use Rattle.both.specs.Parts.{Gathered, gathers, placed, gathered}
+use Rattle.both.specs.Parts.{Gathered, gathers, appended, gathered}
 use Rattle.both.proofs.Rests.{apart-snoc}
 
 module _ (l : ℕ) (list page into₀ : List ℕ) where
@@ -85,9 +85,9 @@ module _ (l : ℕ) (list page into₀ : List ℕ) where
             ∙ ap (apart l (cut l page)) (take-suc (rowsOf l list) i 0 (omega (arith, length-rowsOf l list)) ∙ ap (λ (x : ℕ). take i (rowsOf l list) ++ (x ∷ [])) next-row)
             ∙ apart-snoc l (cut l page) (take i (rowsOf l list)) (number row)
 
-        placed-more : placed page row k into ≡ gathered l (front (i + 1)) into₀
-        unfolding placed gathered
-        placed-more = rw (bytesAgree-row l page row row-long low high, front-more) (go (agrees l (cut l page) (number row)))
+        appended-more : appended page row k into ≡ gathered l (front (i + 1)) into₀
+        unfolding appended gathered
+        appended-more = rw (bytesAgree-row l page row row-long low high, front-more) (go (agrees l (cut l page) (number row)))
           where
             one : bytes (8 + l) (number row) ≡ row
             one = ap (λ (w : ℕ). bytes w (number row)) (sym row-long) ∙ bytes-number row row-below
@@ -104,12 +104,12 @@ module _ (l : ℕ) (list page into₀ : List ℕ) where
                 (ap (gathers (suc k)) (ap (lay (k * length row) row) written ∙ lay-over (k * length row) (flat (8 + l) (front i)) row into₀ size))
 
         -- one row more
-        pub gathering-more : (r : ℕ) (now : List ℕ) → gathers r now ≡ placed page row k into → length now ≡ length into → Gathering now r (at + (8 + l)) (i + 1)
+        pub gathering-more : (r : ℕ) (now : List ℕ) → gathers r now ≡ appended page row k into → length now ≡ length into → Gathering now r (at + (8 + l)) (i + 1)
         gathering-more r now e same = record {
           walk = walk-more (8 + l) list i at (G .walk) h;
-          most = most-more (bytesAgree page row) (unfold placed in e);
+          most = most-more (bytesAgree page row) (unfold appended in e);
           long = same ∙ G .long;
-          holds = e ∙ placed-more;
+          holds = e ∙ appended-more;
         }
           where
             most-more : (agree : Bool) → gathers r now ≡ cond agree (gathers k into) (gathers (suc k) (lay (k * length row) row into)) → r ≤ i + 1

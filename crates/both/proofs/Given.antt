@@ -9,7 +9,7 @@ use lib.ListN.{length}
 use Rattle.octets.specs.Octets.{flat}
 use Rattle.octets.proofs.Runs.{length-flat, take-over}
 use Rattle.rows.specs.Rows.{rowBytes, rowsOf}
-use Rattle.reading.specs.Answer.{numbersOf}
+use Rattle.reading.specs.Answer.{answerNumbers}
 use Rattle.reading.specs.Outcome.{Lent, Outcome, Check, passes, refuses, read, after, gave}
 use Rattle.reading.proofs.Demand1.{EarlyCheck}
 use Rattle.reading.proofs.Given.{none-given}
@@ -32,7 +32,7 @@ module _ (n l : ℕ) (rows : List ℕ) (o : Outcome) (s : Second) where
 
   pub same-gave : gave (firstOf (withSecond n l rows o s)) ≡ gave o
   unfolding gave
-  same-gave = ap (λ a. eqb (numbersOf a .number) 0) same-answer
+  same-gave = ap (λ a. eqb (answerNumbers a .number) 0) same-answer
 
 -- ---- a page was given
 

@@ -18,7 +18,7 @@ use Rattle.rows.specs.Rows.{shape, symbols, rowBytes, rowCount, rowsOf}
 use Rattle.rows.specs.Make.{cut}
 use Rattle.reading.specs.declared.Answer.{Answer}
 use Rattle.reading.specs.declared.Answer.the-variants as answer
-use Rattle.reading.specs.Answer.{numbersOf}
+use Rattle.reading.specs.Answer.{answerNumbers}
 use Rattle.reading.specs.Reading.{pickedRows, pageOf}
 use Rattle.reading.specs.Outcome.{Lent, Outcome, Check, passes, refuses, roomy, strayFrom, checks, ended, solved, after, outcome, gave, wholeLength, roomFor}
 use Rattle.reading.proofs.Checks.{Passed, passed, roomy-fits}
@@ -29,10 +29,10 @@ use Rattle.reading.proofs.Answer.{the-type}
 use Rattle.checks.specs.declared.Gate.the-variants as gates
 use Rattle.checks.specs.Gate.{gate}
 use Rattle.checks.proofs.Gating.{outcome-read}
-use Rattle.reader.specs.Finish.{buffers, gives}
+use Rattle.reader.specs.Finish.{buffers, outcomeOf}
 use Rattle.both.specs.Both as spec
 use Rattle.both.specs.Both.{Second, lentToo, apart, roomyToo, checksBoth, alone, followed, withSecond}
-use Rattle.both.specs.Parts.{pair, fitsToo, Passing, Ending, secondly}
+use Rattle.both.specs.Parts.{pair, fitsToo, Passing, SecondEnding, secondly}
 
 module _ (n l : ℕ) (list : List ℕ) (lent : Lent) (s : Second) where
   abbrev pub asked : Bool
@@ -63,7 +63,7 @@ module _ (n l : ℕ) (list : List ℕ) (lent : Lent) (s : Second) where
     where
       go : (b : Bool) → EarlyCheck (checks n l list lent) → EarlyCheck (cond b (checks n l list lent) (refuses answer.Room))
       go true e = e
-      go false e = unfold numbersOf in (omega arith, omega arith)
+      go false e = unfold answerNumbers in (omega arith, omega arith)
 
   -- a list that passes has room for both, and passes the plain checks
   module _ (p : checksBoth n l list lent s ≡ passes) where
@@ -78,7 +78,7 @@ module _ (n l : ℕ) (list : List ℕ) (lent : Lent) (s : Second) where
     plain-check = rw asked-fits at (sym checks-both ∙ p)
 
   pub room-refused : asked ≡ false → pair (record { first = answer.Room; second = answer.Few 0; rows = 0 }) lent s ≡ spec.both n l list lent s
-  unfolding spec.both after withSecond gave numbersOf alone
+  unfolding spec.both after withSecond gave answerNumbers alone
   room-refused e = let refused : checksBoth n l list lent s ≡ refuses answer.Room = checks-both ∙ rw e in rw refused
 
   -- the room is there: the first reading is the plain one
@@ -103,7 +103,7 @@ module _ (n l : ℕ) (list : List ℕ) (lent : Lent) (s : Second) where
     too : roomyToo n l list (lent .scratch) s ≡ true
     unfolding fitsToo gate wholeLength roomyToo roomFor rowCount
     too =
-        let whole : wholeLength l (length list) ≡ true = P .listed in
+        let whole : wholeLength l (length list) ≡ true = P .rowsWhole in
         go (leb (length list) (length (s .list)))
         (roomFor (n * l) (length list / rowBytes l) (length (s .page)) (length (s .uses)) (length (s .roles)) (length (lent .scratch))) refl (rw (P .shaped, whole) at e)
       where
@@ -115,15 +115,15 @@ module _ (n l : ℕ) (list : List ℕ) (lent : Lent) (s : Second) where
     unfolding roomyToo
     passing scratch same =
         let halves = both (leb (length list) (length (s .list))) (roomy n l (rowCount l list) (lentToo (lent .scratch) s)) too in
-        record { passing = passes-too (halves .1); listed = leb-true (length list) (length (s .list)) (halves .0) }
+        record { passing = passes-too (halves .1); listRoom = leb-true (length list) (length (s .list)) (halves .0) }
       where
         passes-too : roomy n l (rowCount l list) (lentToo (lent .scratch) s) ≡ true → checks n l list (lentToo scratch s) ≡ passes
-        passes-too room = unfold checks roomFor in rw (P .shaped, P .listed, same, room) (P .clean)
+        passes-too room = unfold checks roomFor in rw (P .shaped, P .rowsWhole, same, room) (P .clean)
 
 -- ---- the answers that code takes for no page
 
-pub no-page : (a : Answer) → OneOf (1 ∷ 2 ∷ 3 ∷ 4 ∷ 5 ∷ 6 ∷ 7 ∷ []) (tagOf the-type a) → (lent : Lent) → gave (gives a lent) ≡ false
-unfolding gave numbersOf
+pub no-page : (a : Answer) → OneOf (1 ∷ 2 ∷ 3 ∷ 4 ∷ 5 ∷ 6 ∷ 7 ∷ []) (tagOf the-type a) → (lent : Lent) → gave (outcomeOf a lent) ≡ false
+unfolding gave answerNumbers
 no-page (answer.Page r g) k lent = absurd (miss (1 ∷ 2 ∷ 3 ∷ 4 ∷ 5 ∷ 6 ∷ 7 ∷ []) 0 tt k)
 no-page answer.Shape k lent = refl
 no-page answer.List k lent = refl
@@ -139,9 +139,9 @@ no-page (answer.Singular r) k lent = refl
 abbrev given : ℕ → ℕ → List ℕ → List ℕ
 given n l list = pageOf n l (pickedRows n (rowsOf l list))
 
-module _ (n l : ℕ) (list : List ℕ) (lent : Lent) (r g : ℕ) (lent₁ : Lent) (told : gives (answer.Page r g) lent₁ ≡ outcome n l list lent) where
+module _ (n l : ℕ) (list : List ℕ) (lent : Lent) (r g : ℕ) (lent₁ : Lent) (told : outcomeOf (answer.Page r g) lent₁ ≡ outcome n l list lent) where
   gave-page : gave (outcome n l list lent) ≡ true
-  gave-page = sym (ap gave told) ∙ (unfold gave numbersOf in refl)
+  gave-page = sym (ap gave told) ∙ (unfold gave answerNumbers in refl)
 
   pub page-passes : checks n l list lent ≡ passes
   page-passes = given-passes n l list lent gave-page
@@ -161,7 +161,7 @@ module _ (n l : ℕ) (list : List ℕ) (lent : Lent) (r g : ℕ) (lent₁ : Lent
 
   -- and the rows that do not agree with it were read
   pub both-follow : (s : Second) (cuts : List ℕ) → cuts ≡ given n l list → (first : Answer) → first ≡ answer.Page r g
-      → (e : Ending) → e ≡ secondly first n l (apart l cuts (rowsOf l list)) s (lent₁ .scratch)
-      → pair (e .answers) (buffers (lent₁ .page) (lent₁ .uses) (lent₁ .roles) (e .scratch)) (e .second) ≡ withSecond n l (rowsOf l list) (gives (answer.Page r g) lent₁) s
-  unfolding withSecond gave numbersOf followed secondly
-  both-follow s cuts c first q e is = ap (λ (x : Ending). pair (x .answers) (buffers (lent₁ .page) (lent₁ .uses) (lent₁ .roles) (x .scratch)) (x .second)) (is ∙ rw (c, q))
+      → (e : SecondEnding) → e ≡ secondly first n l (apart l cuts (rowsOf l list)) s (lent₁ .scratch)
+      → pair (e .answers) (buffers (lent₁ .page) (lent₁ .uses) (lent₁ .roles) (e .scratch)) (e .second) ≡ withSecond n l (rowsOf l list) (outcomeOf (answer.Page r g) lent₁) s
+  unfolding withSecond gave answerNumbers followed secondly
+  both-follow s cuts c first q e is = ap (λ (x : SecondEnding). pair (x .answers) (buffers (lent₁ .page) (lent₁ .uses) (lent₁ .roles) (x .scratch)) (x .second)) (is ∙ rw (c, q))

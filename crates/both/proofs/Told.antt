@@ -10,11 +10,11 @@ use mathlib.Core.Logic.{_⊎_, inl, inr, ⊎-elim}
 use lib.ListN.{length}
 use Rattle.space.specs.Lists.{Below, All, select}
 use Rattle.octets.specs.Octets.{numbers, flat, over}
-use Rattle.octets.proofs.Runs.{length-flat, numbers-flat, flat-numbers, take-over}
+use Rattle.octets.proofs.Runs.{length-flat, numbers-flat, take-over}
 use Rattle.octets.proofs.Views.{numbers-take}
 use Rattle.rows.specs.Rows.{symbols, rowBytes, rowsOf, constraint, agrees}
 use Rattle.rows.proofs.Lists.{rows-flat, rows-below}
-use Rattle.rows.proofs.Pages.{length-symbols, symbols-below}
+use Rattle.rows.proofs.Pages.{length-symbols, symbols-below, flat-symbols}
 use Rattle.reading.specs.declared.Answer.the-variants as answer
 use Rattle.reading.specs.Reading.{rank, pickedRows, pageOf}
 use Rattle.reading.specs.Outcome.{Lent, ended, solved, read, telling, gave}
@@ -106,13 +106,10 @@ module _ (n l : ℕ) (list : List ℕ) (lent : Lent) (s : Second) (b : Below 256
       ∙ ap (λ (rs : List ℕ). read n l rs (lentToo (lent .scratch) s)) (sym rest-rows)
       ∙ agreed-read n l (symbols n l other) (length-symbols n l other) (symbols-below n l other size bytes) second (rw rest-rows (apart-inside l page₁ rows (2 ^ n) within))
       (rw second-rows (apart-other l (pageGiven n l (spec.both n l list lent s)) (symbols n l other) rows either)) enough (lentToo (lent .scratch) s)
-      ∙ rw spelled
+      ∙ rw (flat-symbols n l other size bytes)
     where
       second : List ℕ
       second = secondRows l (spec.both n l list lent s)
 
       rest-rows : second ≡ rest n l rows
       rest-rows = second-rows ∙ ap (λ (p : List ℕ). apart l p rows) page-is
-
-      spelled : flat l (symbols n l other) ≡ other
-      spelled = unfold symbols in flat-numbers l n other size bytes

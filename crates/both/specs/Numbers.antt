@@ -5,8 +5,8 @@ use mathlib.Core.List.{List, [], _∷_}
 use Rattle.reading.specs.Answer as reading
 use Rattle.both.specs.declared.Both.{Both}
 
-unfoldable pub numbersOf : Both → List ℕ
-numbersOf b =
-    let first = reading.numbersOf (b .first) in
-    let second = reading.numbersOf (b .second) in
+unfoldable pub bothNumbers : Both → List ℕ
+bothNumbers b =
+    let first = reading.answerNumbers (b .first) in
+    let second = reading.answerNumbers (b .second) in
     first .rank ∷ first .place ∷ first .agreement ∷ second .number ∷ second .rank ∷ second .place ∷ second .agreement ∷ b .rows ∷ []

@@ -41,8 +41,8 @@ pub record Gathered : Type 0 where
 abbrev pub gathers : ℕ → List ℕ → Gathered
 gathers rows list = record { rows = rows; list = list }
 
-unfoldable pub placed : List ℕ → List ℕ → ℕ → List ℕ → Gathered
-placed page row k list = cond (bytesAgree page row) (gathers k list) (gathers (suc k) (lay (k * length row) row list))
+unfoldable pub appended : List ℕ → List ℕ → ℕ → List ℕ → Gathered
+appended page row k list = cond (bytesAgree page row) (gathers k list) (gathers (suc k) (lay (k * length row) row list))
 
 -- All of them, over the front of the list.
 unfoldable pub gathered : ℕ → List ℕ → List ℕ → Gathered
@@ -53,19 +53,19 @@ gathered l rest list = gathers (length rest) (over (flat (rowBytes l) rest) list
 -- What was checked before: the list passes with the second buffers too, and the second list has room for it.
 pub record Passing (n l : ℕ) (list : List ℕ) (s : Second) (scratch : List ℕ) : Type 0 where
   pub passing : checks n l list (lentToo scratch s) ≡ passes
-  pub listed : length list ≤ length (s .list)
+  pub listRoom : length list ≤ length (s .list)
 
 -- Both answers, and what is lent for the second at exit.
-pub record Ending : Type 0 where
+pub record SecondEnding : Type 0 where
   pub answers : Both
   pub second : Second
   pub scratch : List ℕ
 
-abbrev pub ending : Both → Second → List ℕ → Ending
-ending answers s scratch = record { answers = answers; second = s; scratch = scratch }
+abbrev pub secondEnding : Both → Second → List ℕ → SecondEnding
+secondEnding answers s scratch = record { answers = answers; second = s; scratch = scratch }
 
-unfoldable pub secondly : Answer → ℕ → ℕ → List ℕ → Second → List ℕ → Ending
+unfoldable pub secondly : Answer → ℕ → ℕ → List ℕ → Second → List ℕ → SecondEnding
 secondly first n l rows s scratch =
     let p = read n l rows (lentToo scratch s) in
-    ending (record { first = first; second = p .answer; rows = length rows })
+    secondEnding (record { first = first; second = p .answer; rows = length rows })
     (second (over (flat (rowBytes l) rows) (s .list)) (p .lent .page) (p .lent .uses) (p .lent .roles)) (p .lent .scratch)

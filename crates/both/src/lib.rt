@@ -8,8 +8,8 @@ ghost use Rattle.rows.specs.Make.{cut};
 ghost use Rattle.reader.specs.Finish.{buffers};
 ghost use Rattle.checks.specs.Gate.{gate};
 ghost use Rattle.both.specs.Both.{apart, both};
-ghost use Rattle.both.specs.Numbers.{numbersOf};
-ghost use Rattle.both.specs.Parts.{second, pair, fitsToo, gathers, placed, gathered, Passing, ending, secondly};
+ghost use Rattle.both.specs.Numbers.{bothNumbers};
+ghost use Rattle.both.specs.Parts.{second, pair, fitsToo, gathers, appended, gathered, Passing, secondEnding, secondly};
 use checks::Gate;
 use reading::Answer;
 
@@ -46,9 +46,9 @@ fn fits_too(
 // ---- the second list
 
 // A row that does not agree with the page goes behind the first k rows; how many there are then.
-fn place(list: &mut [u8], k: usize, page: &[u8], row: &[u8]) -> usize
+fn append(list: &mut [u8], k: usize, page: &[u8], row: &[u8]) -> usize
     requires { ⌜ (k * length (now row) + length (now row) ≤ length (now list)) × (k < length (now list)) ⌝ }
-    ensures { λ r. ⌜ gathers r (now (list .exit)) ≡ placed (now (page .entry)) (now (row .entry)) k (now (list .entry)) ⌝ }
+    ensures { λ r. ⌜ gathers r (now (list .exit)) ≡ appended (now (page .entry)) (now (row .entry)) k (now (list .entry)) ⌝ }
 {
     if agree::agrees(page, row) {
         return k;
@@ -72,7 +72,7 @@ fn gather(l: usize, list: &[u8], page: &[u8], into: &mut [u8]) -> usize
     let mut i = 0;
     while i < rows {
         let end = at + w;
-        k = place(into, k, page, &list[at..end]);
+        k = append(into, k, page, &list[at..end]);
         at = end;
         i += 1;
     }
@@ -93,7 +93,7 @@ fn follow(
     scratch: &mut [u8],
 ) -> Both
     requires { ⌜ Passing n l (now list) (second (now list2) (now page2) (now uses2) (now roles2)) (now scratch) ⌝ }
-    ensures { λ r. ⌜ ending r (second (now (list2 .exit)) (now (page2 .exit)) (now (uses2 .exit)) (now (roles2 .exit))) (now (scratch .exit))
+    ensures { λ r. ⌜ secondEnding r (second (now (list2 .exit)) (now (page2 .exit)) (now (uses2 .exit)) (now (roles2 .exit))) (now (scratch .exit))
         ≡ secondly first n l (apart l (cut l (now (page .entry))) (rowsOf l (now (list .entry))))
         (second (now (list2 .entry)) (now (page2 .entry)) (now (uses2 .entry)) (now (roles2 .entry))) (now (scratch .entry)) ⌝ }
 {
@@ -173,7 +173,7 @@ pub fn read_both(
 
 // The numbers of both answers in a row.
 pub fn numbers_of(answers: Both) -> [u64; 8]
-    ensures { λ r. ⌜ r ≡ numbersOf answers ⌝ }
+    ensures { λ r. ⌜ r ≡ bothNumbers answers ⌝ }
 {
     let one = answers.first;
     let other = answers.second;

@@ -4,7 +4,7 @@ use mathlib.Core.List.{List}
 use Rattle.frame.specs.declared.numbers.Numbers as frame
 use Rattle.laying.specs.declared.Told.{Told}
 use Rattle.reading.specs.declared.Numbers.{Numbers}
-use Rattle.reading.specs.Answer.{numbersOf}
+use Rattle.reading.specs.Answer.{answerNumbers}
 use Rattle.reading.specs.Outcome.{Lent}
 use Rattle.pairs.specs.Pairs.{inPairs}
 
@@ -32,4 +32,4 @@ answered number rank place agreement lent =
 unfoldable pub crossed : ℕ → ℕ → List ℕ → Lent → Crossed
 crossed n l list lent =
     let o = inPairs n l list lent in
-    record { numbers = numbersOf (o .answer); lent = o .lent }
+    record { numbers = answerNumbers (o .answer); lent = o .lent }

@@ -1,7 +1,7 @@
 -- What both readings give across the boundary: nine numbers, and buffers of bytes.
 use Prim.Native.Nat.{ℕ}
 use mathlib.Core.List.{List}
-use Rattle.reading.specs.Answer.{numbersOf}
+use Rattle.reading.specs.Answer.{answerNumbers}
 use Rattle.reading.specs.Outcome.{Lent}
 use Rattle.both.specs.Both.{Second}
 use Rattle.both.specs.Numbers as both
@@ -20,4 +20,4 @@ crossing number numbers lent s = record { number = number; numbers = numbers; le
 unfoldable pub crossedBoth : ℕ → ℕ → List ℕ → Lent → Second → CrossedBoth
 crossedBoth n l list lent s =
     let p = bothInPairs n l list lent s in
-    crossing (numbersOf (p .answers .first) .number) (both.numbersOf (p .answers)) (p .lent) (p .second)
+    crossing (answerNumbers (p .answers .first) .number) (both.bothNumbers (p .answers)) (p .lent) (p .second)

@@ -4,7 +4,7 @@ ghost use mathlib.Core.Path.{_≡_};
 ghost use Prim.Native.Nat.{_*_};
 ghost use Rattle.rows.specs.Rows.{rowBytes};
 ghost use Rattle.frame.specs.Reading.{reading};
-ghost use Rattle.frame.specs.Numbers.{numbersOf};
+ghost use Rattle.frame.specs.Numbers.{frameNumbers};
 ghost use Rattle.laying.specs.Laying as laying;
 ghost use Rattle.reader.specs.Finish.{buffers};
 ghost use Rattle.both.specs.Parts.{second};
@@ -24,7 +24,7 @@ pub extern "C" fn mekorvat_read_frame(
     offset: &mut usize,
 ) -> u8
     ensures { λ r. ⌜ framed r (now (place .exit)) (now (page .exit)) (now (n .exit)) (now (l .exit)) (now (seed .exit)) (now (offset .exit))
-        ≡ numbersOf (reading (now (frame .entry))) ⌝ }
+        ≡ frameNumbers (reading (now (frame .entry))) ⌝ }
 {
     let numbers = frame::numbers_of(frame::read(frame));
     *place = numbers.place;

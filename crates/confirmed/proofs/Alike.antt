@@ -10,7 +10,7 @@ use lib.ListN.{length, take}
 use Rattle.space.specs.Lists.{Below}
 use Rattle.octets.specs.Octets.{flat}
 use Rattle.rows.specs.Rows.{symbols, rowCount, rowsOf, constraint}
-use Rattle.reading.specs.Answer.{numbersOf}
+use Rattle.reading.specs.Answer.{answerNumbers}
 use Rattle.reading.specs.Reading.{rank}
 use Rattle.reading.specs.Outcome.{Lent, passes, strayFrom, checks, read, after, outcome, gave, wholeLength}
 use Rattle.reading.proofs.Checks.{Passed, passed, inside, none-stray}
@@ -60,7 +60,7 @@ module _ (n l : ℕ) (list : List ℕ) (lent : Lent) (e : gave (outcome n l list
   list-other-page d = other-page n l before r after old-inside old-gives old-full u other same pages
     where
       gave-too : gave (outcome n l new lent) ≡ true
-      gave-too = unfold gave in ap (λ a. eqb (numbersOf a .number) 0) (list-unconfirmed .answer) ∙ unfold gave in e
+      gave-too = unfold gave in ap (λ a. eqb (answerNumbers a .number) 0) (list-unconfirmed .answer) ∙ unfold gave in e
 
       bytes : flat l (given n l (before ++ other ∷ after)) ≡ flat l (given n l (before ++ r ∷ after))
       bytes = rw rows′ at (rw rows at (sym (list-page n l new lent gave-too) ∙ d ∙ list-page n l list lent e))

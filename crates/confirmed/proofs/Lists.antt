@@ -9,11 +9,11 @@ use mathlib.Core.Logic.{_↔_}
 use lib.ListN.{length, take}
 use Rattle.space.specs.Lists.{Below}
 use Rattle.octets.specs.Octets.{numbers, flat}
-use Rattle.octets.proofs.Runs.{length-flat, flat-below, numbers-flat, flat-numbers, take-over}
+use Rattle.octets.proofs.Runs.{length-flat, flat-below, numbers-flat, take-over}
 use Rattle.rows.specs.Rows.{symbols, rowCount, rowsOf}
 use Rattle.rows.proofs.Shape.{shape-range}
 use Rattle.rows.proofs.Lists.{length-rowsOf}
-use Rattle.rows.proofs.Pages.{length-symbols, symbols-below}
+use Rattle.rows.proofs.Pages.{length-symbols, symbols-below, flat-symbols}
 use Rattle.reading.specs.Reading.{kept, rank}
 use Rattle.reading.specs.Outcome.{Lent, usesMarks, rolesMarks, telling, ended, solved, after, outcome, gave}
 use Rattle.reading.proofs.Kept.{length-kept}
@@ -32,10 +32,6 @@ use Rattle.confirmed.proofs.Means.{given-page, confirmed-means}
 module _ (n l : ℕ) where
   bytes-page : (page : List ℕ) → length page ≡ n * l → Below 256 page → IsPage n l (symbols n l page)
   bytes-page page size b = record { size = length-symbols n l page; symbols = symbols-below n l page size b }
-
-  spelled : (page : List ℕ) → length page ≡ n * l → Below 256 page → flat l (symbols n l page) ≡ page
-  unfolding symbols
-  spelled page size b = flat-numbers l n page size b
 
   pub cut-back : (page : List ℕ) → IsPage n l page → symbols n l (flat l page) ≡ page
   unfolding symbols
@@ -87,7 +83,7 @@ module _ (n l : ℕ) (list : List ℕ) (lent : Lent) (e : gave (outcome n l list
   pub list-one-misread : confirms (rowCount l list) (outcome n l list lent) ≡ true → CertainList n l list (outcome n l list lent)
   list-one-misread c page size b one =
       list-page ∙ ap (flat l) (one-misread-count n l rows (inside n l list lent P) list-gives (sym list-confirms ∙ c) (symbols n l page) (bytes-page n l page size b) one)
-      ∙ spelled n l page size b
+      ∙ flat-symbols n l page size b
 
   -- and confirmed is what it is exactly when this holds
   pub list-confirmed-means : (confirms (rowCount l list) (outcome n l list lent) ≡ true) ↔ CertainList n l list (outcome n l list lent)

@@ -15,7 +15,7 @@ use Rattle.octets.specs.Octets.{flat}
 use Rattle.rows.specs.Rows.{constraint, agrees, made}
 use Rattle.rows.proofs.Pages.{agrees-made}
 use Rattle.reading.specs.declared.Answer.the-variants as answer
-use Rattle.reading.specs.Answer.{numbersOf}
+use Rattle.reading.specs.Answer.{answerNumbers}
 use Rattle.reading.specs.Reading.{rank, few, picked}
 use Rattle.reading.specs.Outcome.{Lent, usesMarks, rolesMarks, telling, ended, solved, read, gave}
 use Rattle.reading.proofs.Pick.{tie-never, length-picked, not-few, no-tie}
@@ -40,7 +40,7 @@ gives-exactly n l rows lent = (λ e. these (page-given n l rows lent e), solves)
     }
 
     solves : GivesPage n l rows → gave (read n l rows lent) ≡ true
-    solves g = unfold gave read solved ended numbersOf in rw (g .enough, g .chosen, g .sound)
+    solves g = unfold gave read solved ended answerNumbers in rw (g .enough, g .chosen, g .sound)
 
 -- with rank n: all rows agree
 full-read : (n l : ℕ) (rows : List ℕ) → Below (2 ^ n) (map (constraint l) rows) → rank rows ≡ n → GivesPage n l rows → (lent : Lent)

@@ -8,10 +8,10 @@ use lib.ListN.{length}
 use Rattle.space.specs.Lists.{Below}
 use Rattle.space.proofs.Xor.{⊕-lt}
 use Rattle.octets.specs.Octets.{numbers, flat, xorBytes}
-use Rattle.octets.proofs.Runs.{flat-numbers, numbers-flat}
+use Rattle.octets.proofs.Runs.{numbers-flat}
 use Rattle.rows.specs.Rows.{symbols}
 use Rattle.rows.specs.Shift.{plus}
-use Rattle.rows.proofs.Pages.{length-symbols, symbols-below}
+use Rattle.rows.proofs.Pages.{length-symbols, symbols-below, flat-symbols}
 use Rattle.rows.proofs.Shifts.{flat-plus}
 
 length-plus : (p q : List ℕ) → length p ≡ length q → length (plus p q) ≡ length p
@@ -32,12 +32,9 @@ module _ (n l : ℕ) (p q : List ℕ) (sp : length p ≡ n * l) (sq : length q �
 
   pub symbols-plus : symbols n l (xorBytes p q) ≡ plus (symbols n l p) (symbols n l q)
   symbols-plus =
-      ap (symbols n l) (sym (flat-plus l (symbols n l p) (symbols n l q) same-symbols ∙ ap₂ xorBytes (spelled p sp bp) (spelled q sq bq)))
+      ap (symbols n l) (sym (flat-plus l (symbols n l p) (symbols n l q) same-symbols ∙ ap₂ xorBytes (flat-symbols n l p sp bp) (flat-symbols n l q sq bq)))
       ∙ back
     where
-      spelled : (page : List ℕ) → length page ≡ n * l → Below 256 page → flat l (symbols n l page) ≡ page
-      spelled page size b = unfold symbols in flat-numbers l n page size b
-
       both : List ℕ
       both = plus (symbols n l p) (symbols n l q)
 

@@ -21,7 +21,7 @@ use Rattle.frame.specs.declared.Frame.the-variants as frames
 use Rattle.frame.specs.Layout.{frameLength}
 use Rattle.frame.specs.Reading.{reading}
 use Rattle.frame.specs.Numbers.{payloadOf}
-use Rattle.writing.specs.Writing.{numberOf, written, sumBytes, frameOf, roomAfter}
+use Rattle.writing.specs.Writing.{numberOf, writeAnswer, sumBytes, frameOf, roomAfter}
 use Rattle.laying.specs.Laying.{placing, laid, frameRow}
 use Rattle.frame.proofs.Tests.{passes}
 use Rattle.draw.proofs.Inside.{draws-below}
@@ -35,8 +35,8 @@ use Rattle.crossing.specs.Sent.{sent}
 abbrev isDone : Written → Bool
 isDone a = eqb (numberOf a) 0
 
-pub written-shaped : (n l : ℕ) (page room : List ℕ) → written n l page room ≡ Done → shape n l ≡ true
-unfolding written numberOf
+pub written-shaped : (n l : ℕ) (page room : List ℕ) → writeAnswer n l page room ≡ Done → shape n l ≡ true
+unfolding writeAnswer numberOf
 written-shaped n l page room e = not-false (shape n l) (passes isDone (not (shape n l)) Shape _ refl (ap isDone e) .0)
 
 -- ---- a frame made of a page
@@ -56,7 +56,7 @@ module _ (p n l seed : ℕ) (page : List ℕ) (small : p < 2 ^ 32) (seeded : see
 
 -- ---- what writing leaves in the room
 
-module _ (p n l seed : ℕ) (page room : List ℕ) (small : p < 2 ^ 32) (seeded : seed < 2 ^ 32) (done : written n l page room ≡ Done) where
+module _ (p n l seed : ℕ) (page room : List ℕ) (small : p < 2 ^ 32) (seeded : seed < 2 ^ 32) (done : writeAnswer n l page room ≡ Done) where
   s : shape n l ≡ true
   s = written-shaped n l page room done
 

@@ -13,7 +13,7 @@ use Rattle.octets.proofs.Runs.{below-parts}
 use Rattle.frame.specs.declared.Frame.the-variants as frames
 use Rattle.frame.specs.Layout.{mark, fieldBytes, headBytes, frameBytes, value}
 use Rattle.frame.specs.Reading.{nOf, lOf, reading}
-use Rattle.frame.specs.Numbers.{numbersOf, payloadOf}
+use Rattle.frame.specs.Numbers.{frameNumbers, payloadOf}
 use Rattle.frame.proofs.Whole.{Whole}
 use Rattle.frame.proofs.Good.{Fields, fields, values-are}
 use Rattle.octets.proofs.Parts.{part-long}
@@ -74,7 +74,7 @@ module _ (frame : List ℕ) (b : Below 256 frame) where
     three = field-at 12 3 4 (f .three) ∙ ap (fieldBytes 3) (number-at 12 3 4 (f .three) ∙ ap (bytes 4) (its .3))
 
     four : drop 19 frame ≡ fieldBytes 4 (payloadOf frame)
-    unfolding payloadOf numbersOf value
+    unfolding payloadOf frameNumbers value
     four =
         let last : length (drop 19 frame) ≤ 3 + lOf frame = omega (arith, f .long, length-drop 19 frame) in
         sym (take-all (3 + lOf frame) (drop 19 frame) last) ∙ field-at 19 4 (lOf frame) (f .four) ∙ rw (e, its .2)

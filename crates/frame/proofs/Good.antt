@@ -20,15 +20,15 @@ use Rattle.frame.specs.declared.fields.Field.the-variants as field
 use Rattle.frame.specs.declared.Frame.the-variants as frames
 use Rattle.frame.specs.Layout.{pageAt, shapeAt, seedAt, payloadAt, frameLength, value}
 use Rattle.frame.specs.Reading.{fieldOf, placed, expected, behind, first, nOf, lOf, second, third, ended, fourth, good, fromShape, reading}
-use Rattle.frame.specs.Numbers.{numbersOf, refused, numberOf, isGood, placeOf, payloadOf}
+use Rattle.frame.specs.Numbers.{frameNumbers, refused, numberOf, isGood, placeOf, payloadOf}
 use Rattle.frame.proofs.Frame.{the-type}
 use Rattle.frame.proofs.Tests.{passes}
 use Rattle.frame.proofs.Whole.{Whole, whole, whole-found}
 
 -- the answers that code takes for a refusal
 pub refused-is : (f : Frame) → OneOf (1 ∷ 2 ∷ 3 ∷ 4 ∷ 5 ∷ []) (tagOf the-type f)
-    → (isGood f ≡ false) × (numbersOf f ≡ refused (numberOf f) (placeOf f))
-unfolding numbersOf
+    → (isGood f ≡ false) × (frameNumbers f ≡ refused (numberOf f) (placeOf f))
+unfolding frameNumbers
 refused-is (frames.Good page n l seed) o = absurd (miss (1 ∷ 2 ∷ 3 ∷ 4 ∷ 5 ∷ []) 0 tt o)
 refused-is (frames.Short place) o = (refl, refl)
 refused-is (frames.WrongTag place) o = (refl, refl)
@@ -38,7 +38,7 @@ refused-is (frames.Trailing place) o = (refl, refl)
 
 past-placed : (frame : List ℕ) (at : ℕ) (f : Field) (next : Frame) → isGood (behind (placed frame at f) next) ≡ true
     → (f ≡ field.Whole) × (isGood next ≡ true)
-unfolding behind placed numbersOf
+unfolding behind placed frameNumbers
 past-placed frame at field.Whole next e = (refl, e)
 past-placed frame at field.Short next e = absurd (false≢true e)
 past-placed frame at field.WrongTag next e = absurd (false≢true e)
@@ -64,7 +64,7 @@ pub record Fields (frame : List ℕ) : Type 0 where
 module _ (frame : List ℕ) where
   -- a frame reads as good exactly when it has them
   pub good-fields : isGood (reading frame) ≡ true → Fields frame
-  unfolding reading first fromShape second third fourth ended numbersOf
+  unfolding reading first fromShape second third fourth ended frameNumbers
   good-fields e =
       let one = past frame pageAt 1 4 _ e in
       let two = past frame shapeAt 2 2 _ (one .1) in
@@ -95,7 +95,7 @@ module _ (frame : List ℕ) where
 
   module _ (page n l seed : ℕ) (e : reading frame ≡ frames.Good page n l seed) where
     pub fields : Fields frame
-    unfolding numbersOf
+    unfolding frameNumbers
     fields = good-fields (ap isGood e)
 
     values : good frame (nOf frame) (lOf frame) ≡ frames.Good page n l seed
@@ -113,5 +113,5 @@ module _ (frame : List ℕ) where
 
     -- the payload has its l bytes
     pub good-payload : length (payloadOf frame) ≡ l
-    unfolding payloadOf numbersOf
+    unfolding payloadOf frameNumbers
     good-payload = rw e (length-take-le l (drop 22 frame) (omega (arith, good-long, length-drop 22 frame)))

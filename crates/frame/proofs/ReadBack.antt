@@ -15,7 +15,7 @@ use Rattle.rows.proofs.Shape.{shape-range}
 use Rattle.frame.specs.declared.Frame.the-variants as frames
 use Rattle.frame.specs.Layout.{mark, fieldBytes, headBytes, frameBytes, value}
 use Rattle.frame.specs.Reading.{nOf, lOf, good, reading}
-use Rattle.frame.specs.Numbers.{numbersOf, payloadOf}
+use Rattle.frame.specs.Numbers.{frameNumbers, payloadOf}
 use Rattle.frame.proofs.Whole.{Whole}
 use Rattle.frame.proofs.Good.{Fields, fields-good}
 use Rattle.frame.proofs.Lengths.{length-field, length-frame}
@@ -54,5 +54,5 @@ module _ (page n l seed : ℕ) (payload : List ℕ) (small : page < 2 ^ 32) (see
   laid-out-reads = fields-good frame frame-fields ∙ ap₂ (λ p z. frames.Good p n l z) (number-bytes 4 page small) (number-bytes 4 seed seeded)
 
   pub laid-out-payload : payloadOf frame ≡ payload
-  unfolding payloadOf numbersOf frameBytes headBytes fieldBytes mark bytes
+  unfolding payloadOf frameNumbers frameBytes headBytes fieldBytes mark bytes
   laid-out-payload = rw laid-out-reads (take-all l payload (le-of-eq long))

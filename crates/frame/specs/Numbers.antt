@@ -16,27 +16,27 @@ abbrev pub refused : ℕ → ℕ → Numbers
 refused number place = record { number = number; place = place; page = 0; n = 0; l = 0; seed = 0; offset = 0 }
 
 -- "A good reading gives number 0, place 0, the page number, n, L and seed, and hands the payload back".
-unfoldable pub numbersOf : Frame → Numbers
-numbersOf (Good page n l seed) = record { number = 0; place = 0; page = page; n = n; l = l; seed = seed; offset = payloadAt + 3 }
-numbersOf (Short place) = refused 11 place
-numbersOf (WrongTag place) = refused 12 place
-numbersOf (WrongLength place) = refused 13 place
-numbersOf OutOfRange = refused 14 shapeAt
-numbersOf (Trailing place) = refused 15 place
+unfoldable pub frameNumbers : Frame → Numbers
+frameNumbers (Good page n l seed) = record { number = 0; place = 0; page = page; n = n; l = l; seed = seed; offset = payloadAt + 3 }
+frameNumbers (Short place) = refused 11 place
+frameNumbers (WrongTag place) = refused 12 place
+frameNumbers (WrongLength place) = refused 13 place
+frameNumbers OutOfRange = refused 14 shapeAt
+frameNumbers (Trailing place) = refused 15 place
 
 abbrev pub numberOf : Frame → ℕ
-numberOf f = numbersOf f .number
+numberOf f = frameNumbers f .number
 
 -- Whether a frame was read right: "A good reading gives number 0".
 abbrev pub isGood : Frame → Bool
 isGood f = eqb (numberOf f) 0
 
 abbrev pub placeOf : Frame → ℕ
-placeOf f = numbersOf f .place
+placeOf f = frameNumbers f .place
 
 abbrev pub offsetOf : Frame → ℕ
-offsetOf f = numbersOf f .offset
+offsetOf f = frameNumbers f .offset
 
 -- The part of a frame that a reading of it hands back.
 unfoldable pub payloadOf : List ℕ → List ℕ
-payloadOf frame = take (numbersOf (reading frame) .l) (drop (offsetOf (reading frame)) frame)
+payloadOf frame = take (frameNumbers (reading frame) .l) (drop (offsetOf (reading frame)) frame)

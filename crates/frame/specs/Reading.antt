@@ -23,7 +23,7 @@ fieldOf rest tag size =
     (cond (ltb (length rest) (3 + size)) field.Short
     field.Whole)))
 
--- "The place is the offset of the field's start"; since wish 2 "the place for 13 should be the first length byte, and for 11 the number of
+-- "The place is the offset of the field's start"; since wish 2: "The place for 13 should be the first length byte, and for 11 the number of
 -- bytes in the frame."
 unfoldable pub placed : List ℕ → ℕ → Field → Found
 placed frame at field.Whole = found.Whole

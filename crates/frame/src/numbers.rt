@@ -1,6 +1,6 @@
 // Document 01's number, place and values of a reading.
 ghost use mathlib.Core.Path.{_≡_};
-ghost use Rattle.frame.specs.Numbers.{refused, numbersOf};
+ghost use Rattle.frame.specs.Numbers.{refused, frameNumbers};
 use crate::Frame;
 use crate::layout::PAYLOAD;
 use crate::layout::SHAPE_AT;
@@ -32,7 +32,7 @@ fn refusal(number: u8, place: usize) -> Numbers
 
 // The numbers of a reading.
 pub fn numbers_of(found: Frame) -> Numbers
-    ensures { λ r. ⌜ r ≡ numbersOf found ⌝ }
+    ensures { λ r. ⌜ r ≡ frameNumbers found ⌝ }
 {
     match found {
         Frame::Good { page, n, l, seed } => Numbers {

@@ -18,7 +18,7 @@ const FRAME: usize = 57;
 const ARRIVALS: [usize; 11] = [0, 1, 2, 3, 511, 512, 1, 1, 1, 1, 1];
 
 // The frame of a base, at the start of room; its length.
-fn written(room: &mut [u8], k: usize, b: Base) -> usize
+fn write_base(room: &mut [u8], k: usize, b: Base) -> usize
     requires { ⌜ (length (now room) ≡ 57) × (1 ≤ b .n) × (b .n ≤ 64) × (1 ≤ b .l) × (b .l ≤ 32) ⌝ }
     ensures { λ r. ⌜ r ≡ 22 + b .l ⌝ }
 {
@@ -71,7 +71,7 @@ fn cut_and_extended(room: &[u8], end: usize)
 fn readings_in(room: &mut [u8], k: usize)
     requires { ⌜ length (now room) ≡ 57 ⌝ }
 {
-    let end = written(room, k, base::at(k));
+    let end = write_base(room, k, base::at(k));
     whole_and_altered(&mut room[0..end]);
     cut_and_extended(room, end);
 }
@@ -114,7 +114,7 @@ fn layings_in(room: &mut [u8], k: usize, b: Base)
 {
     let row = 8 + b.l as usize;
     let size = 3 * row + 5;
-    let end = written(room, k, b);
+    let end = write_base(room, k, b);
     of_whole(&room[0..end], b, size);
     of_lengths(room, b, end, size);
     into_lists(&room[0..end], b, row);

@@ -9,7 +9,7 @@ use borrow.Author.Tests.{eq-eqb}
 use Rattle.space.specs.Lists.{Below}
 use Rattle.octets.specs.Octets.{xorBytes}
 use Rattle.rows.specs.Rows.{shape, rowBytes}
-use Rattle.frame.specs.Numbers.{numbersOf}
+use Rattle.frame.specs.Numbers.{frameNumbers}
 use Rattle.laying.specs.Laying.{samePage}
 use Rattle.writing.specs.Writing.{frameOf}
 use Rattle.reading.specs.declared.Answer.the-variants as answer
@@ -33,7 +33,7 @@ module _ (number n l : ℕ) where
       → (caught : List (Caught A)) → Mixed number n l Right caught → OwnFirst caught → firstOfPage number n l (framesOf make caught) ≡ true
   unfolding firstOfPage framesOf
   own-first make row Right owns [] m f = absurd f
-  own-first make row Right owns (own a ∷ caught) m f = rw (owns a (m .0) .reads) (unfold numbersOf samePage in rw (eq-eqb number number refl, eq-eqb n n refl, eq-eqb l l refl))
+  own-first make row Right owns (own a ∷ caught) m f = rw (owns a (m .0) .reads) (unfold frameNumbers samePage in rw (eq-eqb number number refl, eq-eqb n n refl, eq-eqb l l refl))
   own-first make row Right owns (other frame ∷ caught) m f = rw (f .0) (own-first make row Right owns caught (m .1) (f .1))
 
   -- what lines have left, whose frames those are: the page, and the list of the frames laid one after the other

@@ -10,7 +10,7 @@ use borrow.Author.Tests.{eqb-true}
 use Rattle.space.proofs.Both.{both}
 use Rattle.rows.specs.Rows.{rowBytes}
 use Rattle.frame.specs.Reading.{reading}
-use Rattle.frame.specs.Numbers.{numbersOf, isGood}
+use Rattle.frame.specs.Numbers.{frameNumbers, isGood}
 use Rattle.frame.specs.Numbers.{numberOf as numberOf-of, placeOf as placeOf-of}
 use Rattle.laying.specs.Laying.{samePage, laid, numberOf, placeOf, listAfter, frameRow}
 use Rattle.crossing.specs.Held.{Held, blank, offered, offeredAll}
@@ -20,7 +20,7 @@ use Rattle.text.specs.Hex.{pairs, bad}
 use Rattle.lines.specs.declared.Page.{Page}
 use Rattle.lines.specs.declared.Expected.the-variants.{Nothing, Only}
 use Rattle.lines.specs.declared.Line.the-variants.{Row, Refused}
-use Rattle.lines.specs.Taking.{gives, result, expecting, pageOf, rowsAfter, layOn, takeFrame, takeLine}
+use Rattle.lines.specs.Taking.{takenAs, result, expecting, pageOfFrame, rowsAfter, layOn, takeFrame, takeLine}
 use Rattle.from_lines.specs.Lines.{Left, started, leftBy, takenOver, takenAll, framesIn, firstOfPage}
 
 module _ (number n l : ℕ) where
@@ -56,7 +56,7 @@ module _ (number n l : ℕ) where
   frame-over frame h = go (isGood (reading frame)) refl
     where
       go : (b : Bool) → isGood (reading frame) ≡ b
-          → leftBy (cond b (layOn page frame (h .rows) (h .list)) (gives (Refused (numberOf-of (reading frame)) (placeOf-of (reading frame))) (record { expected = Only page; rows = h .rows }) (h .list)))
+          → leftBy (cond b (layOn page frame (h .rows) (h .list)) (takenAs (Refused (numberOf-of (reading frame)) (placeOf-of (reading frame))) (record { expected = Only page; rows = h .rows }) (h .list)))
           ≡ expects (offered number n l frame h)
       go true e = laid-on frame h
       go false e = ap expects (sym (unread frame e h))
@@ -69,7 +69,7 @@ module _ (number n l : ℕ) where
   lines-over (line ∷ lines) h = go (bad line) (lines-over lines)
     where
       go : (b : Bool) → ((h : Held) → takenAll lines (expects h) ≡ expects (offeredAll number n l (framesIn lines) h))
-          → takenAll lines (leftBy (cond b (gives (Refused 17 0) (record { expected = Only page; rows = h .rows }) (h .list)) (takeFrame (pairs line) (record { expected = Only page; rows = h .rows }) (h .list))))
+          → takenAll lines (leftBy (cond b (takenAs (Refused 17 0) (record { expected = Only page; rows = h .rows }) (h .list)) (takeFrame (pairs line) (record { expected = Only page; rows = h .rows }) (h .list))))
           ≡ expects (offeredAll number n l (cond b (framesIn lines) (pairs line ∷ framesIn lines)) h)
       go true ih = ih h
       go false ih = ap (takenAll lines) (frame-over (pairs line) h) ∙ ih (offered number n l (pairs line) h)
@@ -82,18 +82,18 @@ module _ (number n l : ℕ) where
   unfolding takeFrame expecting
   first-over frame list g same = rw (g, its) (laid-on frame (blank list))
     where
-      parts : (eqb (numbersOf (reading frame) .page) number ≡ true) × ((eqb (numbersOf (reading frame) .n) n && eqb (numbersOf (reading frame) .l) l) ≡ true)
+      parts : (eqb (frameNumbers (reading frame) .page) number ≡ true) × ((eqb (frameNumbers (reading frame) .n) n && eqb (frameNumbers (reading frame) .l) l) ≡ true)
       parts = unfold samePage in both _ _ same
 
-      shaped : (eqb (numbersOf (reading frame) .n) n ≡ true) × (eqb (numbersOf (reading frame) .l) l ≡ true)
+      shaped : (eqb (frameNumbers (reading frame) .n) n ≡ true) × (eqb (frameNumbers (reading frame) .l) l ≡ true)
       shaped = both _ _ (parts .1)
 
-      its : pageOf (reading frame) ≡ page
+      its : pageOfFrame (reading frame) ≡ page
       its =
-          unfold pageOf in λ i. record {
-            number = eqb-true (numbersOf (reading frame) .page) number (parts .0) i;
-            n = eqb-true (numbersOf (reading frame) .n) n (shaped .0) i;
-            l = eqb-true (numbersOf (reading frame) .l) l (shaped .1) i;
+          unfold pageOfFrame in λ i. record {
+            number = eqb-true (frameNumbers (reading frame) .page) number (parts .0) i;
+            n = eqb-true (frameNumbers (reading frame) .n) n (shaped .0) i;
+            l = eqb-true (frameNumbers (reading frame) .l) l (shaped .1) i;
           }
 
   unread-first : (frame list : List ℕ) → isGood (reading frame) ≡ false → leftBy (takeFrame frame (record { expected = Nothing; rows = 0 }) list) ≡ started list
@@ -122,7 +122,7 @@ module _ (number n l : ℕ) where
     where
       go : (b : Bool) → firstOfPage number n l (cond b (framesIn lines) (pairs line ∷ framesIn lines)) ≡ true
           → (firstOfPage number n l (framesIn lines) ≡ true → takenAll lines (started list) ≡ expects (offeredAll number n l (framesIn lines) (blank list)))
-          → takenAll lines (leftBy (cond b (gives (Refused 17 0) (record { expected = Nothing; rows = 0 }) list) (takeFrame (pairs line) (record { expected = Nothing; rows = 0 }) list)))
+          → takenAll lines (leftBy (cond b (takenAs (Refused 17 0) (record { expected = Nothing; rows = 0 }) list) (takeFrame (pairs line) (record { expected = Nothing; rows = 0 }) list)))
           ≡ expects (offeredAll number n l (cond b (framesIn lines) (pairs line ∷ framesIn lines)) (blank list))
       go true later ih = ih later
       go false now ih = first-lays lines list ih (pairs line) now

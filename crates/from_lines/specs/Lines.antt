@@ -11,7 +11,7 @@ use Rattle.crossing.specs.Caught.{Caught, own, other}
 use Rattle.text.specs.Hex.{pairs, bad}
 use Rattle.lines.specs.declared.Expected.{Expected}
 use Rattle.lines.specs.declared.Expected.the-variants.{Nothing}
-use Rattle.lines.specs.Taking.{Outcome, takeLine}
+use Rattle.lines.specs.Taking.{LineTaken, takeLine}
 
 -- What lines have left: the page that is expected, and the list with its rows.
 pub record Left : Type 0 where
@@ -23,7 +23,7 @@ abbrev pub started : List ℕ → Left
 started list = record { expected = Nothing; held = record { list = list; rows = 0 } }
 
 -- What a line's outcome leaves.
-abbrev pub leftBy : Outcome → Left
+abbrev pub leftBy : LineTaken → Left
 leftBy o = record { expected = o .taken .sheet .expected; held = record { list = o .list; rows = o .taken .sheet .rows } }
 
 -- A line is taken over what those before it have left.

@@ -16,7 +16,7 @@ use Rattle.frame.specs.declared.Frame.{Frame}
 use Rattle.frame.specs.declared.Frame.the-variants as good
 use Rattle.laying.specs.declared.Laid.{Laid}
 use Rattle.frame.specs.Reading.{reading}
-use Rattle.frame.specs.Numbers.{numbersOf, isGood, payloadOf}
+use Rattle.frame.specs.Numbers.{frameNumbers, isGood, payloadOf}
 use Rattle.frame.specs.Numbers as frames
 use Rattle.laying.specs.Laying.{numberOf, samePage, placing, laid, frameRow, listAfter}
 
@@ -50,11 +50,11 @@ module _ (frame : List ℕ) (page n l arrival : ℕ) (list : List ℕ) where
 
     module _ (p m k seed : ℕ) (g : reading frame ≡ good.Good p m k seed) where
       pub laid-other : samePage (good.Good p m k seed) page n l ≡ false → laid frame page n l arrival list ≡ OtherPage
-      unfolding laid numbersOf
+      unfolding laid frameNumbers
       laid-other o = rw (s, g, o)
 
       pub laid-placing : p ≡ page → m ≡ n → k ≡ l → laid frame page n l arrival list ≡ placing l arrival list
-      unfolding laid samePage numbersOf
+      unfolding laid samePage frameNumbers
       laid-placing e f h = rw (s, g, eq-eqb p page e, eq-eqb m n f, eq-eqb k l h)
 
 -- ---- number 0
@@ -84,7 +84,7 @@ laid-zero frame page n l arrival list z =
 -- ---- the row
 
 pub row-is : (frame : List ℕ) (p n l seed : ℕ) → reading frame ≡ good.Good p n l seed → frameRow frame ≡ bytes 8 (constraint n seed) ++ payloadOf frame
-unfolding frameRow numbersOf
+unfolding frameRow frameNumbers
 row-is frame p n l seed g = rw g
 
 -- a row that was laid is there

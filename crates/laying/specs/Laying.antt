@@ -38,7 +38,7 @@ toldBy a = record { number = numberOf a; place = placeOf a }
 
 -- "16 other page, if page number, n or L differ".
 unfoldable pub samePage : Frame → ℕ → ℕ → ℕ → Bool
-samePage f page n l = eqb (frames.numbersOf f .page) page && (eqb (frames.numbersOf f .n) n && eqb (frames.numbersOf f .l) l)
+samePage f page n l = eqb (frames.frameNumbers f .page) page && (eqb (frames.frameNumbers f .n) n && eqb (frames.frameNumbers f .l) l)
 
 -- "2, arrival number over 511; 3, list too short for that place."
 unfoldable pub placing : ℕ → ℕ → List ℕ → Laid
@@ -57,7 +57,7 @@ laid frame page n l arrival list =
 
 -- The row of a frame: its constraint, drawn from its seed, then its payload.
 unfoldable pub frameRow : List ℕ → List ℕ
-frameRow frame = bytes 8 (constraint (frames.numbersOf (reading frame) .n) (frames.numbersOf (reading frame) .seed)) ++ frames.payloadOf frame
+frameRow frame = bytes 8 (constraint (frames.frameNumbers (reading frame) .n) (frames.frameNumbers (reading frame) .seed)) ++ frames.payloadOf frame
 
 -- "The row goes into the middle of the caller's list, .. and no byte on either side of it changes. .. Refused, they write nothing."
 unfoldable pub listAfter : Laid → ℕ → List ℕ → List ℕ → List ℕ

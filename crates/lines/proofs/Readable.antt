@@ -10,7 +10,7 @@ use Rattle.rows.specs.Rows.{shape, rowBytes}
 use Rattle.rows.proofs.Shape.{shape-range}
 use Rattle.frame.specs.declared.Frame.{Frame}
 use Rattle.frame.specs.Reading.{reading, good}
-use Rattle.frame.specs.Numbers.{numbersOf, numberOf, isGood, placeOf}
+use Rattle.frame.specs.Numbers.{frameNumbers, numberOf, isGood, placeOf}
 use Rattle.laying.specs.Laying as laying
 use Rattle.frame.proofs.Good.{good-fields, fields-good}
 use Rattle.lines.specs.declared.Page.{Page}
@@ -20,7 +20,7 @@ use Rattle.lines.specs.declared.Sheet.{Sheet}
 use Rattle.lines.specs.declared.Line.{Line}
 use Rattle.lines.specs.declared.Line.the-variants.{Row, Refused}
 use Rattle.text.specs.Hex.{pairs, bad}
-use Rattle.lines.specs.Taking.{gives, result, expecting, pageOf, rowsAfter, layOn, takeFrame, takeLine}
+use Rattle.lines.specs.Taking.{takenAs, result, expecting, pageOfFrame, rowsAfter, layOn, takeFrame, takeLine}
 use Rattle.lines.specs.Readable.{InShape, Readable}
 use Rattle.lines.proofs.Takes.{result-row, laid-within}
 
@@ -46,8 +46,8 @@ lay-readable page frame rows list s h =
     let place = laying.placeOf answer in
     record { few = rows-few (result number place) rows h (λ e. laid-within page frame rows list (result-row number place e)); shaped = s }
 
-pub good-page : (frame : List ℕ) → isGood (reading frame) ≡ true → shape (pageOf (reading frame) .n) (pageOf (reading frame) .l) ≡ true
-unfolding pageOf numbersOf good
+pub good-page : (frame : List ℕ) → isGood (reading frame) ≡ true → shape (pageOfFrame (reading frame) .n) (pageOfFrame (reading frame) .l) ≡ true
+unfolding pageOfFrame frameNumbers good
 good-page frame e =
     let fields = good-fields frame e in
     rw (fields-good frame fields) (fields .shaped)
@@ -60,18 +60,18 @@ frame-readable frame sheet list s = go (isGood found) refl
     found = reading frame
 
     expected : Page
-    expected = expecting (sheet .expected) (pageOf found)
+    expected = expecting (sheet .expected) (pageOfFrame found)
 
     go : (b : Bool) → isGood found ≡ b
-        → Readable (cond b (layOn expected frame (sheet .rows) list) (gives (Refused (numberOf found) (placeOf found)) sheet list) .taken .sheet)
-    go true e = lay-readable expected frame (sheet .rows) list (expecting-shaped (sheet .expected) (pageOf found) (s .shaped) (good-page frame e)) (s .few)
+        → Readable (cond b (layOn expected frame (sheet .rows) list) (takenAs (Refused (numberOf found) (placeOf found)) sheet list) .taken .sheet)
+    go true e = lay-readable expected frame (sheet .rows) list (expecting-shaped (sheet .expected) (pageOfFrame found) (s .shaped) (good-page frame e)) (s .few)
     go false e = s
 
 pub take-readable : (line : List ℕ) (sheet : Sheet) (list : List ℕ) → Readable sheet → Readable (takeLine line sheet list .taken .sheet)
 unfolding takeLine
 take-readable line sheet list s = go (bad line)
   where
-    go : (b : Bool) → Readable (cond b (gives (Refused 17 0) sheet list) (takeFrame (pairs line) sheet list) .taken .sheet)
+    go : (b : Bool) → Readable (cond b (takenAs (Refused 17 0) sheet list) (takeFrame (pairs line) sheet list) .taken .sheet)
     go true = s
     go false = frame-readable (pairs line) sheet list s
 

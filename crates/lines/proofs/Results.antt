@@ -16,14 +16,14 @@ use Rattle.frame.specs.declared.Frame.the-variants as frames
 use Rattle.laying.specs.declared.Laid.{Laid}
 use Rattle.laying.specs.declared.Laid.the-variants as laid
 use Rattle.frame.specs.Reading.{reading}
-use Rattle.frame.specs.Numbers.{numbersOf, numberOf, isGood, placeOf}
+use Rattle.frame.specs.Numbers.{frameNumbers, numberOf, isGood, placeOf}
 use Rattle.laying.specs.Laying as laying
 use Rattle.lines.specs.declared.Page.{Page}
 use Rattle.lines.specs.declared.Sheet.{Sheet}
 use Rattle.lines.specs.declared.Line.{Line}
 use Rattle.lines.specs.declared.Line.the-variants.{Row, Refused}
 use Rattle.text.specs.Hex.{pairs, bad}
-use Rattle.lines.specs.Taking.{gives, result, expecting, pageOf, layOn, takeFrame, takeLine}
+use Rattle.lines.specs.Taking.{takenAs, result, expecting, pageOfFrame, layOn, takeFrame, takeLine}
 use Rattle.lines.specs.Readable.{Readable}
 use Rattle.lines.proofs.Readable.{expecting-shaped, good-page}
 
@@ -32,7 +32,7 @@ listed Row = true
 listed (Refused number place) = eqb number 2 || (leb 11 number && leb number 17)
 
 refusal-listed : (found : Frame) → isGood found ≡ false → listed (Refused (numberOf found) (placeOf found)) ≡ true
-unfolding listed numbersOf
+unfolding listed frameNumbers
 refusal-listed (frames.Good page n l seed) e = absurd (true≢false e)
 refusal-listed (frames.Short place) e = refl
 refusal-listed (frames.WrongTag place) e = refl
@@ -73,17 +73,17 @@ module _ (list : List ℕ) (room : 20480 ≤ length list) where
   frame-listed frame sheet s = go (isGood (reading frame)) refl
     where
       expected : Page
-      expected = expecting (sheet .expected) (pageOf (reading frame))
+      expected = expecting (sheet .expected) (pageOfFrame (reading frame))
 
       go : (b : Bool) → isGood (reading frame) ≡ b
-          → listed (cond b (layOn expected frame (sheet .rows) list) (gives (Refused (numberOf (reading frame)) (placeOf (reading frame))) sheet list) .taken .line) ≡ true
-      go true e = lay-listed expected frame (sheet .rows) (expecting-shaped (sheet .expected) (pageOf (reading frame)) (s .shaped) (good-page frame e)) e
+          → listed (cond b (layOn expected frame (sheet .rows) list) (takenAs (Refused (numberOf (reading frame)) (placeOf (reading frame))) sheet list) .taken .line) ≡ true
+      go true e = lay-listed expected frame (sheet .rows) (expecting-shaped (sheet .expected) (pageOfFrame (reading frame)) (s .shaped) (good-page frame e)) e
       go false e = refusal-listed (reading frame) e
 
   pub take-listed : (line : List ℕ) (sheet : Sheet) → Readable sheet → listed (takeLine line sheet list .taken .line) ≡ true
   unfolding takeLine listed
   take-listed line sheet s = go (bad line)
     where
-      go : (b : Bool) → listed (cond b (gives (Refused 17 0) sheet list) (takeFrame (pairs line) sheet list) .taken .line) ≡ true
+      go : (b : Bool) → listed (cond b (takenAs (Refused 17 0) sheet list) (takeFrame (pairs line) sheet list) .taken .line) ≡ true
       go true = refl
       go false = frame-listed (pairs line) sheet s

@@ -14,7 +14,7 @@ use Rattle.frame.specs.declared.Frame.the-variants as frames
 use Rattle.laying.specs.declared.Laid.{Laid}
 use Rattle.laying.specs.declared.Laid.the-variants as laid
 use Rattle.frame.specs.Reading.{reading}
-use Rattle.frame.specs.Numbers.{numbersOf, numberOf, isGood, placeOf}
+use Rattle.frame.specs.Numbers.{frameNumbers, numberOf, isGood, placeOf}
 use Rattle.laying.specs.Laying as laying
 use Rattle.lines.specs.declared.Page.{Page}
 use Rattle.lines.specs.declared.Expected.the-variants.{Only}
@@ -22,7 +22,7 @@ use Rattle.lines.specs.declared.Sheet.{Sheet}
 use Rattle.lines.specs.declared.Line.{Line}
 use Rattle.lines.specs.declared.Line.the-variants.{Row, Refused}
 use Rattle.text.specs.Hex.{pairs, bad}
-use Rattle.lines.specs.Taking.{gives, result, expecting, pageOf, rowsAfter, layOn, takeFrame, takeLine}
+use Rattle.lines.specs.Taking.{takenAs, result, expecting, pageOfFrame, rowsAfter, layOn, takeFrame, takeLine}
 
 -- ---- a result
 
@@ -47,7 +47,7 @@ module _ (page : Page) (frame : List ℕ) (rows : ℕ) (list : List ℕ) where
   -- laying, its result and the rows after it
   pub lays : (answer : Laid) → answer ≡ answered → (line : Line) → line ≡ result (laying.numberOf answer) (laying.placeOf answer)
       → (more : ℕ) → more ≡ rowsAfter line rows → (after : List ℕ) → after ≡ laying.listAfter answer (rowBytes (page .l) * rows) (laying.frameRow frame) list
-      → gives line (record { expected = Only page; rows = more }) after ≡ layOn page frame rows list
+      → takenAs line (record { expected = Only page; rows = more }) after ≡ layOn page frame rows list
   unfolding layOn
   lays answer a line e more m after l = rw (l, m, e, a)
 
@@ -74,20 +74,20 @@ module _ (page : Page) (frame : List ℕ) (rows : ℕ) (list : List ℕ) where
 
 module _ (frame : List ℕ) (sheet : Sheet) (list : List ℕ) where
   pub frame-refused : (found : Frame) → found ≡ reading frame → isGood found ≡ false
-      → (line : Line) → line ≡ result (numberOf found) (placeOf found) → gives line sheet list ≡ takeFrame frame sheet list
+      → (line : Line) → line ≡ result (numberOf found) (placeOf found) → takenAs line sheet list ≡ takeFrame frame sheet list
   unfolding takeFrame result
   frame-refused found f e line l = rw (l, ← f, e)
 
   pub frame-good : (page n l seed : ℕ) → reading frame ≡ frames.Good page n l seed
       → (expected : Page) → expected ≡ expecting (sheet .expected) (record { number = page; n = n; l = l })
       → layOn expected frame (sheet .rows) list ≡ takeFrame frame sheet list
-  unfolding takeFrame numbersOf pageOf
+  unfolding takeFrame frameNumbers pageOfFrame
   frame-good page n l seed e expected is = rw (e, is)
 
 -- ---- a line
 
 module _ (line : List ℕ) (sheet : Sheet) (list : List ℕ) where
-  pub line-bad : bad line ≡ true → gives (Refused 17 0) sheet list ≡ takeLine line sheet list
+  pub line-bad : bad line ≡ true → takenAs (Refused 17 0) sheet list ≡ takeLine line sheet list
   unfolding takeLine
   line-bad e = rw e
 

@@ -6,7 +6,7 @@ use lib.Dec.{eqb}
 use Rattle.rows.specs.Rows.{rowBytes}
 use Rattle.frame.specs.declared.Frame.{Frame}
 use Rattle.frame.specs.Reading.{reading}
-use Rattle.frame.specs.Numbers.{numbersOf, numberOf, placeOf}
+use Rattle.frame.specs.Numbers.{frameNumbers, numberOf, placeOf}
 use Rattle.laying.specs.Laying as laying
 use Rattle.lines.specs.declared.Page.{Page}
 use Rattle.lines.specs.declared.Expected.{Expected}
@@ -18,12 +18,12 @@ use Rattle.lines.specs.declared.Taken.{Taken}
 use Rattle.text.specs.Hex.{pairs, bad}
 
 -- The line's result with the sheet after it, and the list at exit.
-pub record Outcome : Type 0 where
+pub record LineTaken : Type 0 where
   pub taken : Taken
   pub list : List ℕ
 
-abbrev pub gives : Line → Sheet → List ℕ → Outcome
-gives line sheet list = record { taken = record { line = line; sheet = sheet }; list = list }
+abbrev pub takenAs : Line → Sheet → List ℕ → LineTaken
+takenAs line sheet list = record { taken = record { line = line; sheet = sheet }; list = list }
 
 -- The result of a number and a place: number 0 is a row.
 unfoldable pub result : ℕ → ℕ → Line
@@ -36,8 +36,8 @@ unfoldable pub expecting : Expected → Page → Page
 expecting Nothing good = good
 expecting (Only page) good = page
 
-unfoldable pub pageOf : Frame → Page
-pageOf good = record { number = numbersOf good .page; n = numbersOf good .n; l = numbersOf good .l }
+unfoldable pub pageOfFrame : Frame → Page
+pageOfFrame good = record { number = frameNumbers good .page; n = frameNumbers good .n; l = frameNumbers good .l }
 
 -- A row laid is one row more.
 unfoldable pub rowsAfter : Line → ℕ → ℕ
@@ -45,22 +45,22 @@ rowsAfter Row rows = rows + 1
 rowsAfter (Refused number place) rows = rows
 
 -- Its row goes behind the rows so far: "A good frame of another page is 16 at 0; a 513th row is 2 at 0."
-unfoldable pub layOn : Page → List ℕ → ℕ → List ℕ → Outcome
+unfoldable pub layOn : Page → List ℕ → ℕ → List ℕ → LineTaken
 layOn page frame rows list =
     let answer = laying.laid frame (page .number) (page .n) (page .l) rows list in
     let line = result (laying.numberOf answer) (laying.placeOf answer) in
-    gives line (record { expected = Only page; rows = rowsAfter line rows })
+    takenAs line (record { expected = Only page; rows = rowsAfter line rows })
     (laying.listAfter answer (rowBytes (page .l) * rows) (laying.frameRow frame) list)
 
 -- ---- a line
 
 -- A frame that is refused changes nothing.
-unfoldable pub takeFrame : List ℕ → Sheet → List ℕ → Outcome
+unfoldable pub takeFrame : List ℕ → Sheet → List ℕ → LineTaken
 takeFrame frame sheet list =
     let found = reading frame in
-    cond (eqb (numberOf found) 0) (layOn (expecting (sheet .expected) (pageOf found)) frame (sheet .rows) list)
-    (gives (Refused (numberOf found) (placeOf found)) sheet list)
+    cond (eqb (numberOf found) 0) (layOn (expecting (sheet .expected) (pageOfFrame found)) frame (sheet .rows) list)
+    (takenAs (Refused (numberOf found) (placeOf found)) sheet list)
 
 -- "A line of odd length, over 256 characters, or with another character .. is 17 at 0." "Order on a line: 17, frame refusals, 16, 2."
-unfoldable pub takeLine : List ℕ → Sheet → List ℕ → Outcome
-takeLine line sheet list = cond (bad line) (gives (Refused 17 0) sheet list) (takeFrame (pairs line) sheet list)
+unfoldable pub takeLine : List ℕ → Sheet → List ℕ → LineTaken
+takeLine line sheet list = cond (bad line) (takenAs (Refused 17 0) sheet list) (takeFrame (pairs line) sheet list)

@@ -6,15 +6,15 @@ use lib.Dec.{leb}
 use lib.ListN.{length, take}
 use Rattle.octets.specs.Octets.{numbers, flat, over}
 use Rattle.reading.specs.declared.Answer.{Answer}
-use Rattle.reading.specs.Answer.{numbersOf}
+use Rattle.reading.specs.Answer.{answerNumbers}
 use Rattle.reading.specs.Outcome.{Lent, Outcome, outcome}
 
 -- To the reader uses are the numbers that whole pairs of them stand for.
-unfoldable pub pairs : List ℕ → List ℕ
-pairs bytes = numbers 2 (length bytes / 2) bytes
+unfoldable pub pairCounts : List ℕ → List ℕ
+pairCounts bytes = numbers 2 (length bytes / 2) bytes
 
 abbrev pub counted : Lent → Lent
-counted lent = record { page = lent .page; uses = pairs (lent .uses); roles = lent .roles; scratch = lent .scratch }
+counted lent = record { page = lent .page; uses = pairCounts (lent .uses); roles = lent .roles; scratch = lent .scratch }
 
 -- At exit the numbers stand as pairs in the bytes again.
 abbrev pub paired : List ℕ → Lent → Lent
@@ -27,7 +27,7 @@ inPairs n l list lent =
 
 -- "Numbers 1 to 4 write nothing."
 unfoldable pub writesNothing : Answer → Bool
-writesNothing a = leb 1 (numbersOf a .number) && leb (numbersOf a .number) 4
+writesNothing a = leb 1 (answerNumbers a .number) && leb (answerNumbers a .number) 4
 
 -- What stands in the uses after an answer: the counts of the rows as pairs at the front, if it writes anything and there is room for them.
 unfoldable pub putMarks : Answer → ℕ → List ℕ → List ℕ → List ℕ

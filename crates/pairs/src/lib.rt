@@ -3,7 +3,7 @@ ghost use mathlib.Core.Path.{_≡_};
 ghost use Prim.Native.Nat.{min, _*_, _/_, _%_, _≤_};
 ghost use lib.ListN.{length};
 ghost use Rattle.octets.specs.Octets.{flat, over};
-ghost use Rattle.reader.specs.Finish.{buffers, gives};
+ghost use Rattle.reader.specs.Finish.{buffers, outcomeOf};
 ghost use Rattle.pairs.specs.Pairs.{inPairs, writesNothing, putMarks};
 use reading::Answer;
 
@@ -69,7 +69,7 @@ fn read_counted(
     scratch: &mut [u8],
 ) -> Answer
     requires { ⌜ length (now counts) ≡ min (length (now uses) / 2) 512 ⌝ }
-    ensures { λ a. ⌜ gives a (buffers (now (page .exit)) (now (uses .exit)) (now (roles .exit)) (now (scratch .exit)))
+    ensures { λ a. ⌜ outcomeOf a (buffers (now (page .exit)) (now (uses .exit)) (now (roles .exit)) (now (scratch .exit)))
         ≡ inPairs n l (now (list .entry)) (buffers (now (page .entry)) (now (uses .entry)) (now (roles .entry)) (now (scratch .entry))) ⌝ }
 {
     let answer = reader::read_list(n, l, list, page, counts, roles, scratch);
@@ -89,7 +89,7 @@ fn read_in(
     scratch: &mut [u8],
 ) -> Answer
     requires { ⌜ length (now counts) ≡ 512 ⌝ }
-    ensures { λ a. ⌜ gives a (buffers (now (page .exit)) (now (uses .exit)) (now (roles .exit)) (now (scratch .exit)))
+    ensures { λ a. ⌜ outcomeOf a (buffers (now (page .exit)) (now (uses .exit)) (now (roles .exit)) (now (scratch .exit)))
         ≡ inPairs n l (now (list .entry)) (buffers (now (page .entry)) (now (uses .entry)) (now (roles .entry)) (now (scratch .entry))) ⌝ }
 {
     let many = octets::least(uses.len() / 2, counts.len());
@@ -106,7 +106,7 @@ pub fn read(
     roles: &mut [u8],
     scratch: &mut [u8],
 ) -> Answer
-    ensures { λ a. ⌜ gives a (buffers (now (page .exit)) (now (uses .exit)) (now (roles .exit)) (now (scratch .exit)))
+    ensures { λ a. ⌜ outcomeOf a (buffers (now (page .exit)) (now (uses .exit)) (now (roles .exit)) (now (scratch .exit)))
         ≡ inPairs n l (now (list .entry)) (buffers (now (page .entry)) (now (uses .entry)) (now (roles .entry)) (now (scratch .entry))) ⌝ }
 {
     let mut counts = [0u16; MOST_ROWS];

@@ -9,7 +9,7 @@ use Rattle.octets.specs.Octets.{number, bytes}
 use Rattle.places.specs.declared.Lookup.{Lookup}
 use Rattle.places.specs.declared.Lookup.the-variants.{Place, Nothing}
 
--- "at most 512 of them", and the most bytes of one.
+-- The most rows of a list: "over 512 rows" it is refused; and the most bytes of one.
 abbrev pub mostRows : ℕ
 mostRows = 512
 

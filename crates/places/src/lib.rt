@@ -11,7 +11,7 @@ pub struct Arrival(pub usize);
 // The place of a kept row among the kept rows, from 0. Only `give` and `given` make one, and only this crate looks into it.
 pub struct KeptPlace(usize);
 
-// "rows of 9 to 40 bytes, at most 512 of them".
+// The most rows of a list, and the most bytes of a row: 8 for the constraint, and up to 32.
 pub const MOST_ROWS: usize = 512;
 
 const WIDEST: usize = 40;

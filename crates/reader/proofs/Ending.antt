@@ -25,7 +25,7 @@ use Rattle.solve.specs.Solve.{chosen, slotBytes, solvable}
 use Rattle.solve.proofs.Chosen.{chosen-picked}
 use Rattle.choose.specs.Mark.{roleBy}
 use Rattle.reader.specs.Sift.{Listed, SiftedBy}
-use Rattle.reader.specs.Finish.{Ending, ends, finished, concluded, isPicked, Solvable, buffers, gives}
+use Rattle.reader.specs.Finish.{Ending, ends, finished, concluded, isPicked, Solvable, buffers, outcomeOf}
 
 -- ---- the definition, by what was chosen
 
@@ -33,7 +33,7 @@ module _ (n l : ℕ) (rows : List ℕ) (lent : Lent) where
   -- what is left by a choice
   leaves : Choice → Ending → Outcome
   leaves choice e =
-      gives (e .answer) (buffers (e .page) (over (usesMarks rows) (lent .uses)) (over (rolesMarks (roleBy choice) n rows) (lent .roles)) (over zeros (lent .scratch)))
+      outcomeOf (e .answer) (buffers (e .page) (over (usesMarks rows) (lent .uses)) (over (rolesMarks (roleBy choice) n rows) (lent .roles)) (over zeros (lent .scratch)))
 
   leaves-read : leaves (choiceOf n (uses rows)) (concluded (choiceOf n (uses rows)) n l rows (rank rows) (lent .page)) ≡ read n l rows lent
   unfolding leaves read
@@ -67,8 +67,8 @@ module _ (n l : ℕ) (list : List ℕ) (lent : Lent) (P : checks n l list lent �
   pub room : Fits n l (rowCount l list) lent
   room = roomy-fits n l (rowCount l list) lent (p .roomed)
 
-  pub listed : Listed l list
-  listed =
+  pub passed-listed : Listed l list
+  passed-listed =
       let r = shape-range n l (p .shaped) in
       record { some = r .l-low; most = r .l-high; whole = whole n l list lent p; many = rows-most n l list lent p }
 
@@ -78,7 +78,7 @@ module _ (n l : ℕ) (list : List ℕ) (lent : Lent) (P : checks n l list lent �
       where
         fit : solvable n l list roles₁ slots (lent .page) ≡ true
         fit = unfold solvable in
-            rw (p .shaped) (rw (p .listed) (rw (le-leb (rowCount l list) (length roles₁) (omega (arith, room .roles, same)))
+            rw (p .shaped) (rw (p .rowsWhole) (rw (le-leb (rowCount l list) (length roles₁) (omega (arith, room .roles, same)))
             (rw (le-leb slotBytes (length slots) wide) (rw (le-leb (n * l) (length (lent .page)) (room .page))))))
 
         go : (c : Choice) → choice ≡ c → isPicked c → Solvable n l list roles₁ slots (lent .page)
@@ -96,7 +96,7 @@ module _ (n l : ℕ) (list : List ℕ) (lent : Lent) (P : checks n l list lent �
             }
 
     pub read-ends : (a : Answer) (page₁ scratch₁ : List ℕ) → ends a page₁ ≡ concluded choice n l (rowsOf l list) r (lent .page) → scratch₁ ≡ over zeros (lent .scratch)
-        → gives a (buffers page₁ uses₁ roles₁ scratch₁) ≡ read n l (rowsOf l list) lent
+        → outcomeOf a (buffers page₁ uses₁ roles₁ scratch₁) ≡ read n l (rowsOf l list) lent
     read-ends a page₁ scratch₁ e z =
         rw (S .used) (rw (S .marked) (rw z (unfold leaves in
         ap (leaves n l (rowsOf l list) lent choice) (e ∙ ap (λ (k : ℕ). concluded choice n l (rowsOf l list) k (lent .page)) (S .ranked)) ∙ by-choice)))

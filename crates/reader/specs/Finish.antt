@@ -30,7 +30,7 @@ pub record Ending : Type 0 where
 abbrev pub ends : Answer → List ℕ → Ending
 ends a page = record { answer = a; page = page }
 
--- "7 singular: picked constraints dependent"; "0 page: otherwise". The page is copied out only after the solving has succeeded.
+-- 7 singular, "picked constraints dependent"; 0 page, "otherwise". The page is copied out only after the solving has succeeded.
 unfoldable pub finished : ℕ → ℕ → List ℕ → ℕ → List ℕ → Ending
 finished n l rows r page =
     cond (singular n l rows) (ends (answer.Singular r) page)
@@ -60,5 +60,5 @@ pub record Solvable (n l : ℕ) (list roles slots page : List ℕ) : Type 0 wher
 abbrev pub buffers : List ℕ → List ℕ → List ℕ → List ℕ → Lent
 buffers page uses roles scratch = record { page = page; uses = uses; roles = roles; scratch = scratch }
 
-abbrev pub gives : Answer → Lent → Outcome
-gives a lent = record { answer = a; lent = lent }
+abbrev pub outcomeOf : Answer → Lent → Outcome
+outcomeOf a lent = record { answer = a; lent = lent }

@@ -6,7 +6,7 @@ ghost use Rattle.rows.specs.Rows.{rowCount, rowsOf};
 ghost use Rattle.reading.specs.Outcome.{checks, passes, read, outcome};
 ghost use Rattle.echelon.specs.State.{stateBytes};
 ghost use Rattle.reader.specs.Sift.{Listed, ChosenBy, SiftedBy};
-ghost use Rattle.reader.specs.Finish.{checkOf, ends, finished, concluded, isPicked, Solvable, buffers, gives};
+ghost use Rattle.reader.specs.Finish.{checkOf, ends, finished, concluded, isPicked, Solvable, buffers, outcomeOf};
 use checks::Gate;
 use checks::Stray;
 use choose::Choice;
@@ -121,7 +121,7 @@ fn read_rows(
     scratch: &mut [u8],
 ) -> Answer
     requires { ⌜ checks n l (now list) (buffers (now page) (now uses) (now roles) (now scratch)) ≡ passes ⌝ }
-    ensures { λ a. ⌜ gives a (buffers (now (page .exit)) (now (uses .exit)) (now (roles .exit)) (now (scratch .exit)))
+    ensures { λ a. ⌜ outcomeOf a (buffers (now (page .exit)) (now (uses .exit)) (now (roles .exit)) (now (scratch .exit)))
         ≡ read n l (rowsOf l (now (list .entry))) (buffers (now (page .entry)) (now (uses .entry)) (now (roles .entry)) (now (scratch .entry))) ⌝ }
 {
     let sifted = sift(n, l, list, uses, roles, &mut scratch[..echelon::STATE]);
@@ -183,7 +183,7 @@ pub fn read_list(
     roles: &mut [u8],
     scratch: &mut [u8],
 ) -> Answer
-    ensures { λ a. ⌜ gives a (buffers (now (page .exit)) (now (uses .exit)) (now (roles .exit)) (now (scratch .exit)))
+    ensures { λ a. ⌜ outcomeOf a (buffers (now (page .exit)) (now (uses .exit)) (now (roles .exit)) (now (scratch .exit)))
         ≡ outcome n l (now (list .entry)) (buffers (now (page .entry)) (now (uses .entry)) (now (roles .entry)) (now (scratch .entry))) ⌝ }
 {
     match check_all(n, l, list, page, uses, roles, scratch) {

@@ -36,7 +36,7 @@ rest-passes false a rest e = absurd (refuses≢passes a e)
 
 pub record Passed (n l : ℕ) (list : List ℕ) (lent : Lent) : Type 0 where
   pub shaped : shape n l ≡ true
-  pub listed : wholeRows l list ≡ true
+  pub rowsWhole : wholeRows l list ≡ true
   pub roomed : roomy n l (rowCount l list) lent ≡ true
   pub clean : strayFrom n l 0 (rowsOf l list) ≡ passes
 
@@ -47,7 +47,7 @@ passed n l list lent e =
     let three : cond (not (roomy n l (rowCount l list) lent)) _ _ ≡ passes = rest-passes (wholeRows l list) _ _ two in
     record {
       shaped = first-passes (shape n l) _ _ e;
-      listed = first-passes (wholeRows l list) _ _ two;
+      rowsWhole = first-passes (wholeRows l list) _ _ two;
       roomed = first-passes (roomy n l (rowCount l list) lent) _ _ three;
       clean = rest-passes (roomy n l (rowCount l list) lent) _ _ three;
     }
@@ -120,10 +120,10 @@ module _ (n l : ℕ) (list : List ℕ) (lent : Lent) (p : Passed n l list lent) 
 
   pub whole : length list ≡ rowCount l list * rowBytes l
   unfolding rowCount
-  whole = omega (arith, div-add-mod' (length list) (8 + l), multiple l list (p .listed))
+  whole = omega (arith, div-add-mod' (length list) (8 + l), multiple l list (p .rowsWhole))
 
   pub rows-most : rowCount l list ≤ 512
-  rows-most = most-512 l list (p .listed)
+  rows-most = most-512 l list (p .rowsWhole)
 
 -- ---- a page added to each row changes no check
 

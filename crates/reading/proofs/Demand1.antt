@@ -11,7 +11,7 @@ use lib.Dec.{leb}
 use Rattle.octets.proofs.Runs.{over-none}
 use Rattle.rows.specs.Rows.{shape, rowCount, rowsOf, constraint}
 use Rattle.reading.specs.declared.Answer.the-variants as answer
-use Rattle.reading.specs.Answer.{numbersOf}
+use Rattle.reading.specs.Answer.{answerNumbers}
 use Rattle.reading.specs.Reading.{rank, few, tie, singular}
 use Rattle.reading.specs.Outcome.{Lent, Outcome, Check, passes, refuses, wholeRows, roomy, strayFrom, checks, ended, solved, read, after, outcome, plain, telling}
 use Rattle.reading.specs.Writes.{Early, Late}
@@ -20,19 +20,19 @@ use Rattle.reading.specs.Writes.{Early, Late}
 
 abbrev pub EarlyCheck : Check → Type 0
 EarlyCheck passes = Unit {0}
-EarlyCheck (refuses a) = (1 ≤ numbersOf a .number) × (numbersOf a .number ≤ 4)
+EarlyCheck (refuses a) = (1 ≤ answerNumbers a .number) × (answerNumbers a .number ≤ 4)
 
 either : (b : Bool) (x y : Check) → EarlyCheck x → EarlyCheck y → EarlyCheck (cond b x y)
 either true x y p q = p
 either false x y p q = q
 
 stray-early : (n l i : ℕ) (rows : List ℕ) → EarlyCheck (strayFrom n l i rows)
-unfolding strayFrom numbersOf
+unfolding strayFrom answerNumbers
 stray-early n l i [] = tt
 stray-early n l i (r ∷ rows) = either (leb (2 ^ n) (constraint l r)) _ _ (omega arith) (stray-early n l (suc i) rows)
 
 pub checks-early : (n l : ℕ) (list : List ℕ) (lent : Lent) → EarlyCheck (checks n l list lent)
-unfolding checks numbersOf
+unfolding checks answerNumbers
 checks-early n l list lent =
     either (not (shape n l)) _ _ (omega arith) (either (not (wholeRows l list)) _ _ (omega arith)
     (either (not (roomy n l (rowCount l list) lent)) _ _ (omega arith) (stray-early n l 0 (rowsOf l list))))
@@ -45,20 +45,20 @@ module _ (n l : ℕ) (rows : List ℕ) (lent : Lent) where
   choose false x y p q = q
 
   few-late : Late n rows lent (ended n rows lent (answer.Few (rank rows)) plain [])
-  unfolding ended numbersOf
-  few-late = record { numbered = omega arith; uses = refl; roles = refl; scratch = refl; page = λ h. over-none (lent .page) }
+  unfolding ended answerNumbers
+  few-late = record { lateNumber = omega arith; uses = refl; roles = refl; scratch = refl; page = λ h. over-none (lent .page) }
 
   tie-late : Late n rows lent (ended n rows lent (answer.Tie (rank rows)) plain [])
-  unfolding ended numbersOf
-  tie-late = record { numbered = omega arith; uses = refl; roles = refl; scratch = refl; page = λ h. over-none (lent .page) }
+  unfolding ended answerNumbers
+  tie-late = record { lateNumber = omega arith; uses = refl; roles = refl; scratch = refl; page = λ h. over-none (lent .page) }
 
   singular-late : Late n rows lent (ended n rows lent (answer.Singular (rank rows)) telling [])
-  unfolding ended numbersOf
-  singular-late = record { numbered = omega arith; uses = refl; roles = refl; scratch = refl; page = λ h. over-none (lent .page) }
+  unfolding ended answerNumbers
+  singular-late = record { lateNumber = omega arith; uses = refl; roles = refl; scratch = refl; page = λ h. over-none (lent .page) }
 
   solved-late : (page : List ℕ) → Late n rows lent (solved n l rows lent page)
-  unfolding solved ended numbersOf
-  solved-late page = record { numbered = omega arith; uses = refl; roles = refl; scratch = refl; page = λ h. absurd (omega arith) }
+  unfolding solved ended answerNumbers
+  solved-late page = record { lateNumber = omega arith; uses = refl; roles = refl; scratch = refl; page = λ h. absurd (omega arith) }
 
   pub read-late : Late n rows lent (read n l rows lent)
   unfolding read

@@ -13,10 +13,9 @@ use Rattle.space.specs.Space.{independent}
 use Rattle.space.proofs.Lists.{select-all, select-map, select-below, count-all}
 use Rattle.space.proofs.Dimension.{independent-most}
 use Rattle.octets.specs.Octets.{flat}
-use Rattle.octets.proofs.Runs.{flat-numbers}
 use Rattle.rows.specs.Rows.{symbols, rowCount, rowsOf, constraint, agrees}
 use Rattle.rows.proofs.Lists.{length-rowsOf}
-use Rattle.rows.proofs.Pages.{length-symbols, symbols-below, agree-independent}
+use Rattle.rows.proofs.Pages.{length-symbols, symbols-below, flat-symbols, agree-independent}
 use Rattle.reading.specs.declared.Answer.the-variants as answer
 use Rattle.reading.specs.Reading.{kept, keptRows, rank, pickedRows, pageOf, agreement, singular}
 use Rattle.reading.specs.Outcome.{Lent, checks, passes, read, after, outcome, ended, solved, telling}
@@ -79,7 +78,4 @@ pub demand-2 : (n l : ℕ) (list : List ℕ) (lent : Lent) → checks n l list l
 unfolding outcome after
 demand-2 n l list lent p page size bytes agreed enough =
     rw p (agreed-read n l (symbols n l page) (length-symbols n l page) (symbols-below n l page size bytes) (rowsOf l list) (inside n l list lent (passed n l list lent p)) agreed enough lent
-    ∙ rw (length-rowsOf l list) (rw spelled))
-  where
-    spelled : flat l (symbols n l page) ≡ page
-    spelled = unfold symbols in flat-numbers l n page size bytes
+    ∙ rw (length-rowsOf l list) (rw (flat-symbols n l page size bytes)))

@@ -14,14 +14,14 @@ use Rattle.space.proofs.Lists.{map-both, count-map, tabulate-ext}
 use Rattle.space.proofs.Linear.{sum-plus}
 use Rattle.octets.specs.Octets.{flat, over, xorBytes}
 use Rattle.octets.proofs.Xors.{length-xorBytes}
-use Rattle.octets.proofs.Runs.{flat-numbers, length-flat, take-over, over-over}
+use Rattle.octets.proofs.Runs.{length-flat, take-over, over-over}
 use Rattle.rows.specs.Rows.{symbols, rowsOf, constraint, payload, named, agrees}
 use Rattle.rows.specs.Shift.{shifted, shiftedList, plus}
-use Rattle.rows.proofs.Pages.{length-symbols, symbols-below}
+use Rattle.rows.proofs.Pages.{length-symbols, symbols-below, flat-symbols}
 use Rattle.rows.proofs.Shifts.{shifted-⊕, shifted-inj, shifted-constraints, shifted-payloads, shifted-agrees, flat-plus, tabulate-plus, rows-shiftedList}
 use Rattle.reading.specs.declared.Answer.{Answer}
 use Rattle.reading.specs.declared.Answer.the-variants as answer
-use Rattle.reading.specs.Answer.{numbersOf}
+use Rattle.reading.specs.Answer.{answerNumbers}
 use Rattle.reading.specs.Reading.{kept, rank, picked, pickedRows, symbol, pageOf, agreement, few, tie, singular}
 use Rattle.reading.specs.Outcome.{Lent, Outcome, checks, passes, usesMarks, rolesMarks, ended, solved, read, after, outcome, plain, telling, gave}
 use Rattle.reading.specs.Added.{added}
@@ -105,7 +105,7 @@ module _ (n l : ℕ) (q : List ℕ) (size : length q ≡ n) (b : Below (2 ^ (8 *
   -- ---- the outcome
 
   module _ (second : List ℕ) (spelled : flat l q ≡ second) (lent : Lent) where
-    refused-moved : (a : Answer) (role : Bool → ℕ) → eqb (numbersOf a .number) 0 ≡ false → ended n moved lent a role [] ≡ added second (ended n rows lent a role [])
+    refused-moved : (a : Answer) (role : Bool → ℕ) → eqb (answerNumbers a .number) 0 ≡ false → ended n moved lent a role [] ≡ added second (ended n rows lent a role [])
     refused-moved a role e = same-ended lent a role [] ∙ unfold added gave ended in rw e
 
     page-bytes : (page : List ℕ) → length page ≡ n → (room : List ℕ)
@@ -121,7 +121,7 @@ module _ (n l : ℕ) (q : List ℕ) (size : length q ≡ n) (b : Below (2 ^ (8 *
     unfolding solved
     solved-moved page e =
         rw same-rank (rw (same-agreement page e) (same-ended lent (answer.Page (rank rows) (agreement l page rows)) telling (flat l (plus page q))
-        ∙ unfold added gave ended numbersOf in rw (page-bytes page e (lent .page))))
+        ∙ unfold added gave ended answerNumbers in rw (page-bytes page e (lent .page))))
 
     pub moved-read : read n l (map (shifted l q) rows) lent ≡ added second (read n l rows lent)
     unfolding read moved
@@ -137,9 +137,9 @@ module _ (n l : ℕ) (q : List ℕ) (size : length q ≡ n) (b : Below (2 ^ (8 *
             (cond s (ended n rs lent (answer.Singular (rank rs)) telling []) (solved n l rs lent page)))
 
         go : (f t : Bool) → tie n rows ≡ t → (s : Bool) → singular n l rows ≡ s → all moved (pageOf n l (pickedRows n moved)) f t s ≡ added second (all rows old f t s)
-        go true t e s d = rw same-rank (unfold numbersOf in refused-moved (answer.Few (rank rows)) plain refl)
-        go false true e s d = rw same-rank (unfold numbersOf in refused-moved (answer.Tie (rank rows)) plain refl)
-        go false false e true d = rw same-rank (unfold numbersOf in refused-moved (answer.Singular (rank rows)) telling refl)
+        go true t e s d = rw same-rank (unfold answerNumbers in refused-moved (answer.Few (rank rows)) plain refl)
+        go false true e s d = rw same-rank (unfold answerNumbers in refused-moved (answer.Tie (rank rows)) plain refl)
+        go false false e true d = rw same-rank (unfold answerNumbers in refused-moved (answer.Singular (rank rows)) telling refl)
         go false false e false d = rw (page-moved e (unfold singular in not-false (independent (map (constraint l) (pickedRows n rows))) d)) (solved-moved old (length-pageOf n l (pickedRows n rows)))
 
 -- ---- of lists of bytes
@@ -151,13 +151,10 @@ unfolding outcome after
 demand-3 n l list lent bytes p second size b =
     rw (checks-shifted n l (symbols n l second) q-below list lent passing bytes) (rw p
     (rw (rows-shiftedList l (symbols n l second) q-below list (whole n l list lent passing) bytes)
-    (moved-read n l (symbols n l second) (length-symbols n l second) q-below (rowsOf l list) (inside n l list lent passing) second spelled lent)))
+    (moved-read n l (symbols n l second) (length-symbols n l second) q-below (rowsOf l list) (inside n l list lent passing) second (flat-symbols n l second size b) lent)))
   where
     passing : Passed n l list lent
     passing = passed n l list lent p
 
     q-below : Below (2 ^ (8 * l)) (symbols n l second)
     q-below = symbols-below n l second size b
-
-    spelled : flat l (symbols n l second) ≡ second
-    spelled = unfold symbols in flat-numbers l n second size b

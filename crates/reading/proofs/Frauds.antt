@@ -14,7 +14,7 @@ use Rattle.rows.specs.Rows.{rowCount, symbols}
 use Rattle.rows.specs.Shift.{shiftedList}
 use Rattle.reading.specs.declared.Answer.{Answer}
 use Rattle.reading.specs.declared.Answer.the-variants as answer
-use Rattle.reading.specs.Answer.{numbersOf}
+use Rattle.reading.specs.Answer.{answerNumbers}
 use Rattle.reading.specs.Outcome.{Lent, Outcome, outcome, roomy, gave}
 use Rattle.reading.specs.Added.{added}
 use Rattle.reading.specs.Worked.{Case, k2, k4, k7, cases, listOf, Seen, seen, expected}
@@ -51,11 +51,11 @@ first bytes = getD bytes 0 0
 -- ---- the frauds
 
 pub refuses-all-differs : Differs refusesAll k2
-unfolding refusesAll seen expected numbersOf
+unfolding refusesAll seen expected answerNumbers
 refuses-all-differs = differs-by number-of refusesAll k2 in-k2 (λ lent room e. omega arith)
 
 pub does-nothing-differs : Differs doesNothing k2
-unfolding doesNothing seen expected numbersOf
+unfolding doesNothing seen expected answerNumbers
 does-nothing-differs = differs-by number-of doesNothing k2 in-k2 (λ lent room e. omega arith)
 
 -- whatever the fixed page is, it is wrong at K2 or at K4, whose pages differ
@@ -94,8 +94,8 @@ pub invents-uses-differs : Differs inventsUses k4
 unfolding inventsUses withUses seen expected over listOf rowCount flat bytes
 invents-uses-differs = differs-by (λ s. getD (s .lent .uses) 2 0) inventsUses k4 in-k4 (λ lent room e. omega arith)
 
-ranked-most : (n : ℕ) (a : Answer) → numbersOf (ranked n a) .rank ≤ n
-unfolding ranked numbersOf
+ranked-most : (n : ℕ) (a : Answer) → answerNumbers (ranked n a) .rank ≤ n
+unfolding ranked answerNumbers
 ranked-most n (answer.Page r g) = omega arith
 ranked-most n answer.Shape = omega arith
 ranked-most n answer.List = omega arith
@@ -109,8 +109,8 @@ pub invents-rank-differs : Differs inventsRank k4
 unfolding inventsRank withAnswer seen expected
 invents-rank-differs = differs-by rank-of inventsRank k4 in-k4 (λ lent room e. omega (arith, ranked-most 1 (outcome 1 1 (listOf k4) lent .answer)))
 
-agreeing-all : (m : ℕ) (a : Answer) → numbersOf (agreeing m a) .agreement ≡ 2 → m ≡ 2
-unfolding agreeing numbersOf
+agreeing-all : (m : ℕ) (a : Answer) → answerNumbers (agreeing m a) .agreement ≡ 2 → m ≡ 2
+unfolding agreeing answerNumbers
 agreeing-all m (answer.Page r g) e = e
 agreeing-all m answer.Shape e = absurd (omega arith)
 agreeing-all m answer.List e = absurd (omega arith)
@@ -132,11 +132,11 @@ added-refused second o e = rw e
 
 pub refuses-all-keeps-shift : KeepsShift refusesAll
 unfolding refusesAll
-refuses-all-keeps-shift n l list lent second = sym (added-refused second (record { answer = answer.Shape; lent = lent }) (unfold gave numbersOf in refl))
+refuses-all-keeps-shift n l list lent second = sym (added-refused second (record { answer = answer.Shape; lent = lent }) (unfold gave answerNumbers in refl))
 
 pub does-nothing-keeps-shift : KeepsShift doesNothing
 unfolding doesNothing
-does-nothing-keeps-shift n l list lent second = sym (added-refused second (record { answer = answer.Few 0; lent = lent }) (unfold gave numbersOf in refl))
+does-nothing-keeps-shift n l list lent second = sym (added-refused second (record { answer = answer.Few 0; lent = lent }) (unfold gave answerNumbers in refl))
 
 -- and a fixed page keeps not even that: K9 is K7 with the page 5 9 added
 never-moved : (x : ℕ) (page : List ℕ) → x ∷ page ≡ over (xorBytes (take 2 (x ∷ page)) (5 ∷ 9 ∷ [])) (x ∷ page) → ⊥
@@ -147,7 +147,7 @@ pub fixed-page-breaks-shift : (fixed : List ℕ) (lent : Lent) → roomy 2 1 5 l
     → fixedPage fixed 2 1 (shiftedList 1 (symbols 2 1 (5 ∷ 9 ∷ [])) (listOf k7)) lent ≡ added (5 ∷ 9 ∷ []) (fixedPage fixed 2 1 (listOf k7) lent) → ⊥
 fixed-page-breaks-shift fixed lent room e = go (over fixed (lent .page)) refl
   where
-    answered : numbersOf (outcome 2 1 (listOf k7) lent .answer) .number ≡ 0
+    answered : answerNumbers (outcome 2 1 (listOf k7) lent .answer) .number ≡ 0
     answered = unfold seen expected in ap number-of (worked k7 in-k7 lent room)
 
     given : gave (fixedPage fixed 2 1 (listOf k7) lent) ≡ true

@@ -9,19 +9,19 @@ use lib.Dec.{eqb}
 use borrow.Author.Tests.{eqb-true}
 use Rattle.rows.specs.Rows.{rowsOf}
 use Rattle.reading.specs.declared.Answer.the-variants as answer
-use Rattle.reading.specs.Answer.{numbersOf}
+use Rattle.reading.specs.Answer.{answerNumbers}
 use Rattle.reading.specs.Reading.{rank, few, tie, singular, pickedRows, pageOf}
 use Rattle.reading.specs.Outcome.{Lent, Outcome, Check, passes, refuses, checks, ended, solved, read, after, outcome, plain, telling, gave}
 use Rattle.reading.proofs.Demand1.{EarlyCheck, checks-early}
 
 -- an answer above 0 gives no page
-pub none-given : (o : Outcome) → 1 ≤ numbersOf (o .answer) .number → gave o ≡ false
+pub none-given : (o : Outcome) → 1 ≤ answerNumbers (o .answer) .number → gave o ≡ false
 unfolding gave
-none-given o h = go (eqb (numbersOf (o .answer) .number) 0) refl
+none-given o h = go (eqb (answerNumbers (o .answer) .number) 0) refl
   where
-    go : (b : Bool) → eqb (numbersOf (o .answer) .number) 0 ≡ b → b ≡ false
+    go : (b : Bool) → eqb (answerNumbers (o .answer) .number) 0 ≡ b → b ≡ false
     go false e = refl
-    go true e = absurd (omega (arith, eqb-true (numbersOf (o .answer) .number) 0 e))
+    go true e = absurd (omega (arith, eqb-true (answerNumbers (o .answer) .number) 0 e))
 
 module _ (n l : ℕ) (rows : List ℕ) (lent : Lent) where
   pub record Given : Type 0 where
@@ -30,7 +30,7 @@ module _ (n l : ℕ) (rows : List ℕ) (lent : Lent) where
     pub solves : read n l rows lent ≡ solved n l rows lent (pageOf n l (pickedRows n rows))
 
   pub page-given : gave (read n l rows lent) ≡ true → Given
-  unfolding read gave ended numbersOf
+  unfolding read gave ended answerNumbers
   page-given e = go (few n rows) refl (tie n rows) refl (singular n l rows) refl e
     where
       go : (f : Bool) → few n rows ≡ f → (t : Bool) → tie n rows ≡ t → (s : Bool) → singular n l rows ≡ s

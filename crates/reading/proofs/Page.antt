@@ -63,7 +63,7 @@ module _ (n l : ℕ) (ps : List ℕ) (inside : Below (2 ^ n) (map (constraint l)
       map-sum (named page) (named-⊕ page) (map (constraint l) ps) (setOf (map (constraint l) ps) (2 ^ k))
       ∙ ap (named page) (unit-sum k h) ∙ named-unit page k (omega arith)
 
-  -- "with no other"
+  -- and with no other page
   pub page-unique : (page : List ℕ) → length page ≡ n → All (agrees l page) ps → pageOf n l ps ≡ page
   unfolding pageOf symbol
   page-unique page e a =

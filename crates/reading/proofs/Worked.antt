@@ -12,7 +12,7 @@ use Rattle.space.proofs.Both.{both}
 use Rattle.octets.specs.Octets.{number, bytes, numbers, flat, over}
 use Rattle.rows.specs.Rows.{shape, rowCount, rowsOf, constraint, payload, named, agrees}
 use Rattle.rows.proofs.Lists.{rowCount-flat}
-use Rattle.reading.specs.Answer.{numbersOf}
+use Rattle.reading.specs.Answer.{answerNumbers}
 use Rattle.reading.specs.Reading.{keptAfter, kept, keptRows, otherRows, rank, usesOf, uses, picks, picked, pickedRows, symbol, pageOf, agreement, few, tie, singular}
 use Rattle.reading.specs.Outcome.{Lent, wholeRows, roomy, strayFrom, checks, spread, usesMarks, rolesMarks, ended, solved, read, after, outcome, wholeLength}
 use Rattle.reading.specs.Worked.{Case, cases, listOf, Seen, seen, expected}
@@ -30,7 +30,7 @@ unfolding sound shape wholeLength listOf rowCount flat bytes
 all-sound = refl
 
 computed : (lent : Lent) → map (run lent) cases ≡ map (expected lent) cases
-unfolding run expected seen listOf after strayFrom read ended solved numbersOf usesMarks rolesMarks spread few tie singular agreement pageOf symbol pickedRows picked picks uses usesOf rank otherRows keptRows kept keptAfter rowsOf rowCount constraint payload named agrees number bytes numbers flat over select marked count tabulate sumOf spans setOf independent _⊕_
+unfolding run expected seen listOf after strayFrom read ended solved answerNumbers usesMarks rolesMarks spread few tie singular agreement pageOf symbol pickedRows picked picks uses usesOf rank otherRows keptRows kept keptAfter rowsOf rowCount constraint payload named agrees number bytes numbers flat over select marked count tabulate sumOf spans setOf independent _⊕_
 computed lent = refl
 
 -- what holds of two tables holds of each case

@@ -4,15 +4,15 @@ use Rattle.reading.specs.declared.Answer.{Answer}
 use Rattle.reading.specs.declared.Answer.the-variants.{Page, Shape, List, Room, Stray, Few, Tie, Singular}
 use Rattle.reading.specs.declared.Numbers.{Numbers}
 
-abbrev pub gives : ℕ → ℕ → ℕ → ℕ → Numbers
-gives number rank place agreement = record { number = number; rank = rank; place = place; agreement = agreement }
+abbrev pub numbered : ℕ → ℕ → ℕ → ℕ → Numbers
+numbered number rank place agreement = record { number = number; rank = rank; place = place; agreement = agreement }
 
-unfoldable pub numbersOf : Answer → Numbers
-numbersOf Shape = gives 1 0 0 0
-numbersOf List = gives 2 0 0 0
-numbersOf Room = gives 3 0 0 0
-numbersOf (Stray arrival) = gives 4 0 (arrival .0) 0
-numbersOf (Few r) = gives 5 r 0 0
-numbersOf (Tie r) = gives 6 r 0 0
-numbersOf (Singular r) = gives 7 r 0 0
-numbersOf (Page r agreement) = gives 0 r 0 agreement
+unfoldable pub answerNumbers : Answer → Numbers
+answerNumbers Shape = numbered 1 0 0 0
+answerNumbers List = numbered 2 0 0 0
+answerNumbers Room = numbered 3 0 0 0
+answerNumbers (Stray arrival) = numbered 4 0 (arrival .0) 0
+answerNumbers (Few r) = numbered 5 r 0 0
+answerNumbers (Tie r) = numbered 6 r 0 0
+answerNumbers (Singular r) = numbered 7 r 0 0
+answerNumbers (Page r agreement) = numbered 0 r 0 agreement

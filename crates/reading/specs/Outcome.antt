@@ -9,7 +9,7 @@ use Rattle.places.specs.Places.{mostRows}
 use Rattle.rows.specs.Rows.{shape, rowBytes, rowCount, rowsOf, constraint}
 use Rattle.reading.specs.declared.Answer.{Answer}
 use Rattle.reading.specs.declared.Answer.the-variants as answer
-use Rattle.reading.specs.Answer.{numbersOf}
+use Rattle.reading.specs.Answer.{answerNumbers}
 use Rattle.reading.specs.Reading.{kept, rank, uses, picked, pickedRows, pageOf, agreement, few, tie, singular}
 
 -- The lent buffers that a reading may write.
@@ -35,7 +35,7 @@ pub data Check : Type 0 where
   passes : Check
   refuses : Answer → Check
 
--- "2 list: length no multiple of 8+L, or over 512 rows", of a list of so many bytes.
+-- Not 2 list, "length no multiple of 8+L, or over 512 rows", of a list of so many bytes.
 unfoldable pub wholeLength : ℕ → ℕ → Bool
 wholeLength l size = eqb (size % rowBytes l) 0 && leb (size / rowBytes l) mostRows
 
@@ -50,7 +50,7 @@ roomFor bytes m page uses roles scratch = (leb bytes page && leb m uses) && (leb
 abbrev pub roomy : ℕ → ℕ → ℕ → Lent → Bool
 roomy n l m lent = roomFor (n * l) m (length (lent .page)) (length (lent .uses)) (length (lent .roles)) (length (lent .scratch))
 
--- "4 stray: a constraint bit worth 2^n or more; .. first such arrival number", from arrival number i on.
+-- 4 stray, "a constraint bit worth 2^n or more", with the "first such arrival number", from arrival number i on.
 unfoldable pub strayFrom : ℕ → ℕ → ℕ → List ℕ → Check
 strayFrom n l i [] = passes
 strayFrom n l i (r ∷ rows) = cond (leb (2 ^ n) (constraint l r)) (refuses (answer.Stray (record { 0 = i }))) (strayFrom n l (suc i) rows)
@@ -129,4 +129,4 @@ outcome n l list lent = after (checks n l list lent) n l (rowsOf l list) lent
 
 -- Whether it gives a page.
 unfoldable pub gave : Outcome → Bool
-gave o = eqb (numbersOf (o .answer) .number) 0
+gave o = eqb (answerNumbers (o .answer) .number) 0

@@ -56,7 +56,7 @@ pageOf n l ps = tabulate n (symbol l ps)
 unfoldable pub agreement : ℕ → List ℕ → List ℕ → ℕ
 agreement l page rows = count (agrees l page) rows
 
--- The refusals after elimination: "5 few: r below n"; "6 tie: r over n, pick not unique"; "7 singular: picked constraints dependent".
+-- The refusals after elimination: 5 few, "r below n"; 6 tie, "r over n, pick not unique"; 7 singular, "picked constraints dependent".
 unfoldable pub few : ℕ → List ℕ → Bool
 few n rows = ltb (rank rows) n
 

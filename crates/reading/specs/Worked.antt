@@ -4,7 +4,7 @@ use mathlib.Core.List.{List, [], _∷_, map}
 use Rattle.octets.specs.Octets.{flat, over}
 use Rattle.rows.specs.Rows.{rowBytes}
 use Rattle.reading.specs.declared.Numbers.{Numbers}
-use Rattle.reading.specs.Answer.{gives, numbersOf}
+use Rattle.reading.specs.Answer.{numbered, answerNumbers}
 use Rattle.reading.specs.Outcome.{Lent, Outcome, zeros}
 
 -- n, the rows, and what is given: number, rank, place and agreement; then what is written from the front of each lent buffer.
@@ -22,46 +22,46 @@ case n rows numbers page uses roles scratch =
     record { n = n; rows = rows; numbers = numbers; page = page; uses = uses; roles = roles; scratch = scratch }
 
 abbrev pub k1 : Case
-k1 = case 1 [] (gives 5 0 0 0) [] [] [] zeros
+k1 = case 1 [] (numbered 5 0 0 0) [] [] [] zeros
 
 abbrev pub k2 : Case
-k2 = case 1 ((1, 7) ∷ []) (gives 0 1 0 1) (7 ∷ []) (0 ∷ []) (2 ∷ []) zeros
+k2 = case 1 ((1, 7) ∷ []) (numbered 0 1 0 1) (7 ∷ []) (0 ∷ []) (2 ∷ []) zeros
 
 abbrev pub k3 : Case
-k3 = case 1 ((1, 7) ∷ (1, 9) ∷ []) (gives 6 2 0 0) [] (0 ∷ 0 ∷ []) (1 ∷ 1 ∷ []) zeros
+k3 = case 1 ((1, 7) ∷ (1, 9) ∷ []) (numbered 6 2 0 0) [] (0 ∷ 0 ∷ []) (1 ∷ 1 ∷ []) zeros
 
 abbrev pub k4 : Case
-k4 = case 1 ((1, 7) ∷ (1, 9) ∷ (1, 9) ∷ []) (gives 0 2 0 2) (9 ∷ []) (0 ∷ 1 ∷ 65535 ∷ []) (1 ∷ 2 ∷ 0 ∷ []) zeros
+k4 = case 1 ((1, 7) ∷ (1, 9) ∷ (1, 9) ∷ []) (numbered 0 2 0 2) (9 ∷ []) (0 ∷ 1 ∷ 65535 ∷ []) (1 ∷ 2 ∷ 0 ∷ []) zeros
 
 abbrev pub k5 : Case
-k5 = case 1 ((0, 7) ∷ []) (gives 7 1 0 0) [] (0 ∷ []) (2 ∷ []) zeros
+k5 = case 1 ((0, 7) ∷ []) (numbered 7 1 0 0) [] (0 ∷ []) (2 ∷ []) zeros
 
 abbrev pub k6 : Case
-k6 = case 1 ((1, 7) ∷ (0, 0) ∷ []) (gives 0 1 0 2) (7 ∷ []) (0 ∷ 65535 ∷ []) (2 ∷ 0 ∷ []) zeros
+k6 = case 1 ((1, 7) ∷ (0, 0) ∷ []) (numbered 0 1 0 2) (7 ∷ []) (0 ∷ 65535 ∷ []) (2 ∷ 0 ∷ []) zeros
 
 abbrev pub k7 : Case
 k7 =
-    case 2 ((3, 1) ∷ (1, 3) ∷ (3, 2) ∷ (2, 1) ∷ (1, 0) ∷ []) (gives 0 3 0 3) (3 ∷ 1 ∷ [])
+    case 2 ((3, 1) ∷ (1, 3) ∷ (3, 2) ∷ (2, 1) ∷ (1, 0) ∷ []) (numbered 0 3 0 3) (3 ∷ 1 ∷ [])
     (1 ∷ 2 ∷ 2 ∷ 65535 ∷ 65535 ∷ []) (1 ∷ 2 ∷ 2 ∷ 0 ∷ 0 ∷ []) zeros
 
 abbrev pub k8 : Case
 k8 =
-    case 2 ((1, 3) ∷ (2, 1) ∷ (3, 1) ∷ (3, 2) ∷ (1, 0) ∷ []) (gives 6 3 0 0) []
+    case 2 ((1, 3) ∷ (2, 1) ∷ (3, 1) ∷ (3, 2) ∷ (1, 0) ∷ []) (numbered 6 3 0 0) []
     (1 ∷ 2 ∷ 1 ∷ 65535 ∷ 65535 ∷ []) (1 ∷ 1 ∷ 1 ∷ 0 ∷ 0 ∷ []) zeros
 
 abbrev pub k9 : Case
 k9 =
-    case 2 ((3, 13) ∷ (1, 6) ∷ (3, 14) ∷ (2, 8) ∷ (1, 5) ∷ []) (gives 0 3 0 3) (6 ∷ 8 ∷ [])
+    case 2 ((3, 13) ∷ (1, 6) ∷ (3, 14) ∷ (2, 8) ∷ (1, 5) ∷ []) (numbered 0 3 0 3) (6 ∷ 8 ∷ [])
     (1 ∷ 2 ∷ 2 ∷ 65535 ∷ 65535 ∷ []) (1 ∷ 2 ∷ 2 ∷ 0 ∷ 0 ∷ []) zeros
 
 abbrev pub k10 : Case
-k10 = case 1 ((2, 7) ∷ []) (gives 4 0 0 0) [] [] [] []
+k10 = case 1 ((2, 7) ∷ []) (numbered 4 0 0 0) [] [] [] []
 
 abbrev pub k11 : Case
-k11 = case 2 ((1, 4) ∷ (1, 5) ∷ []) (gives 7 2 0 0) [] (0 ∷ 0 ∷ []) (2 ∷ 2 ∷ []) zeros
+k11 = case 2 ((1, 4) ∷ (1, 5) ∷ []) (numbered 7 2 0 0) [] (0 ∷ 0 ∷ []) (2 ∷ 2 ∷ []) zeros
 
 abbrev pub k12 : Case
-k12 = case 2 ((1, 4) ∷ []) (gives 5 1 0 0) [] (0 ∷ []) (1 ∷ []) zeros
+k12 = case 2 ((1, 4) ∷ []) (numbered 5 1 0 0) [] (0 ∷ []) (1 ∷ []) zeros
 
 abbrev pub cases : List Case
 cases = k1 ∷ k2 ∷ k3 ∷ k4 ∷ k5 ∷ k6 ∷ k7 ∷ k8 ∷ k9 ∷ k10 ∷ k11 ∷ k12 ∷ []
@@ -76,7 +76,7 @@ pub record Seen : Type 0 where
   pub lent : Lent
 
 unfoldable pub seen : Outcome → Seen
-seen o = record { numbers = numbersOf (o .answer); lent = o .lent }
+seen o = record { numbers = answerNumbers (o .answer); lent = o .lent }
 
 unfoldable pub expected : Lent → Case → Seen
 expected lent c =

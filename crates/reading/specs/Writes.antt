@@ -5,12 +5,12 @@ use mathlib.Core.Bool.{Bool, cond, _||_}
 use mathlib.Core.List.{List}
 use lib.Dec.{eqb}
 use Rattle.octets.specs.Octets.{over}
-use Rattle.reading.specs.Answer.{numbersOf}
+use Rattle.reading.specs.Answer.{answerNumbers}
 use Rattle.reading.specs.Outcome.{Lent, Outcome, usesMarks, rolesMarks, zeros, plain, telling}
 
 -- The answer number of an outcome.
 abbrev pub answerNumber : Outcome → ℕ
-answerNumber o = numbersOf (o .answer) .number
+answerNumber o = answerNumbers (o .answer) .number
 
 -- "Numbers 1 to 4 write nothing."
 pub record Early (lent : Lent) (o : Outcome) : Type 0 where
@@ -25,7 +25,7 @@ roleUnder number = cond (eqb number 5 || eqb number 6) plain telling
 -- "Numbers 5, 6, 7 and 0 write the first m uses .. and the first m roles .. They set the first 32,768 scratch bytes to zero. Only 0 writes
 -- the page".
 pub record Late (n : ℕ) (rows : List ℕ) (lent : Lent) (o : Outcome) : Type 0 where
-  pub numbered : 1 ≤ answerNumber o → (5 ≤ answerNumber o) × (answerNumber o ≤ 7)
+  pub lateNumber : 1 ≤ answerNumber o → (5 ≤ answerNumber o) × (answerNumber o ≤ 7)
   pub uses : o .lent .uses ≡ over (usesMarks rows) (lent .uses)
   pub roles : o .lent .roles ≡ over (rolesMarks (roleUnder (answerNumber o)) n rows) (lent .roles)
   pub scratch : o .lent .scratch ≡ over zeros (lent .scratch)

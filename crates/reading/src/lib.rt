@@ -1,6 +1,6 @@
 // What a reading of a list is: the definitions stand in specs/, their laws in proofs/. The one function gives an answer its numbers.
 ghost use mathlib.Core.Path.{_≡_};
-ghost use Rattle.reading.specs.Answer.{gives, numbersOf};
+ghost use Rattle.reading.specs.Answer.{numbered, answerNumbers};
 
 // The answer of a reading; specs/Answer.antt gives document 01's number, rank, place and agreement for each case.
 pub enum Answer {
@@ -22,7 +22,7 @@ pub struct Numbers {
 }
 
 fn refused(number: u8, place: usize) -> Numbers
-    ensures { λ r. ⌜ r ≡ gives number 0 place 0 ⌝ }
+    ensures { λ r. ⌜ r ≡ numbered number 0 place 0 ⌝ }
 {
     Numbers {
         number,
@@ -33,7 +33,7 @@ fn refused(number: u8, place: usize) -> Numbers
 }
 
 fn ended(number: u8, rank: usize, agreement: usize) -> Numbers
-    ensures { λ r. ⌜ r ≡ gives number rank 0 agreement ⌝ }
+    ensures { λ r. ⌜ r ≡ numbered number rank 0 agreement ⌝ }
 {
     Numbers {
         number,
@@ -45,7 +45,7 @@ fn ended(number: u8, rank: usize, agreement: usize) -> Numbers
 
 // Document 01's numbers of an answer.
 pub fn numbers_of(answer: Answer) -> Numbers
-    ensures { λ r. ⌜ r ≡ numbersOf answer ⌝ }
+    ensures { λ r. ⌜ r ≡ answerNumbers answer ⌝ }
 {
     match answer {
         Answer::Shape => refused(1, 0),

@@ -12,7 +12,8 @@ use borrow.Author.Tests.{eqb-true, eq-eqb}
 use Rattle.space.specs.Space.{_⊕_, independent}
 use Rattle.space.specs.Lists.{Below, All}
 use Rattle.space.proofs.Linear.{map-independent}
-use Rattle.octets.proofs.Runs.{length-numbers, numbers-small}
+use Rattle.octets.specs.Octets.{flat}
+use Rattle.octets.proofs.Runs.{length-numbers, numbers-small, flat-numbers}
 use Rattle.rows.specs.Rows.{symbols, constraint, payload, named, agrees, made}
 use Rattle.rows.specs.Make.{cut}
 use Rattle.rows.proofs.Sums.{constraint-zero, named-⊕, named-lt}
@@ -28,6 +29,11 @@ symbols-small n l page b = numbers-small l n page b
 
 pub symbols-below : (n l : ℕ) (page : List ℕ) → length page ≡ n * l → Below 256 page → Below (2 ^ (8 * l)) (symbols n l page)
 symbols-below n l page size b = symbols-small n l page b
+
+-- the symbols of a page, as bytes, are the page
+pub flat-symbols : (n l : ℕ) (page : List ℕ) → length page ≡ n * l → Below 256 page → flat l (symbols n l page) ≡ page
+unfolding symbols
+flat-symbols n l page size b = flat-numbers l n page size b
 
 -- a page of whole symbols is cut into those
 pub cut-symbols : (n l : ℕ) (page : List ℕ) → 1 ≤ l → length page ≡ n * l → cut l page ≡ symbols n l page

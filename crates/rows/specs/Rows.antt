@@ -8,7 +8,7 @@ use lib.ListN.{length}
 use Rattle.space.specs.Space.{_⊕_}
 use Rattle.octets.specs.Octets.{numbers}
 
--- "n is 1 to 64, L is 1 to 32."
+-- "n is 1 to 64, L is 1 to 32".
 unfoldable pub shape : ℕ → ℕ → Bool
 shape n l = (leb 1 n && leb n 64) && (leb 1 l && leb l 32)
 

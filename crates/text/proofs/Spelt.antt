@@ -13,7 +13,7 @@ use Rattle.octets.specs.Octets.{over}
 use Rattle.octets.proofs.Runs.{over-none}
 use Rattle.octets.proofs.Fill.{Filling, filling-more}
 use Rattle.text.specs.declared.Spelled.the-variants.{Characters, Room}
-use Rattle.text.specs.Hex.{digit, allDigits, pairs, bad, letter, spelling, spelt, writtenOut, speltText}
+use Rattle.text.specs.Hex.{digit, allDigits, pairs, bad, letter, spelling, spelt, speltCharacters, speltText}
 use Rattle.text.proofs.Digits.{digit-decimal, digit-lower}
 use Rattle.text.proofs.Unhexed.{bad-digits}
 
@@ -72,12 +72,12 @@ module _ (bytes old now : List ℕ) (i : ℕ) (fits : length bytes ≤ length ol
 
 module _ (bytes text : List ℕ) where
   pub spell-room : length text / 2 < length bytes → (Room ≡ spelt (length bytes) (length text)) × (text ≡ speltText bytes text)
-  unfolding spelt speltText writtenOut
+  unfolding spelt speltText speltCharacters
   spell-room h = rw (lt-ltb (length text / 2) (length bytes) h) (refl, sym (over-none text))
 
   pub spell-characters : length bytes ≤ length text / 2
       → (Characters (2 * length bytes) ≡ spelt (length bytes) (length text)) × (over (spelling bytes) text ≡ speltText bytes text)
-  unfolding spelt speltText writtenOut
+  unfolding spelt speltText speltCharacters
   spell-characters h = rw (le-ltb (length text / 2) (length bytes) h) (refl, refl)
 
 -- how many characters were written

@@ -13,7 +13,7 @@ use borrow.Author.Tests.{eq-eqb, ne-eqb, lt-ltb, le-ltb, eqb-true, ltb-false}
 use Rattle.octets.specs.Octets.{over}
 use Rattle.octets.proofs.Runs.{over-none, take-over}
 use Rattle.text.specs.declared.Hex.the-variants.{Bytes, Bad, Room}
-use Rattle.text.specs.Hex.{allDigits, pairs, mostCharacters, bad, unhexed, written, unhexedFrame}
+use Rattle.text.specs.Hex.{allDigits, pairs, mostCharacters, bad, unhexed, unhexedBytes, unhexedFrame}
 use Rattle.text.proofs.Hex.{the-type}
 use Rattle.text.proofs.Digits.{length-pairs}
 
@@ -49,16 +49,16 @@ module _ (line : List ℕ) where
 
 module _ (line frame : List ℕ) where
   pub unhex-bad : bad line ≡ true → (Bad ≡ unhexed line (length frame)) × (frame ≡ unhexedFrame line frame)
-  unfolding unhexed unhexedFrame written
+  unfolding unhexed unhexedFrame unhexedBytes
   unhex-bad e = rw e (refl, sym (over-none frame))
 
   pub unhex-room : bad line ≡ false → length frame < length line / 2 → (Room ≡ unhexed line (length frame)) × (frame ≡ unhexedFrame line frame)
-  unfolding unhexed unhexedFrame written
+  unfolding unhexed unhexedFrame unhexedBytes
   unhex-room e h = rw (e, lt-ltb (length frame) (length line / 2) h) (refl, sym (over-none frame))
 
   pub unhex-bytes : bad line ≡ false → length line / 2 ≤ length frame
       → (Bytes (length line / 2) ≡ unhexed line (length frame)) × (over (pairs line) frame ≡ unhexedFrame line frame)
-  unfolding unhexed unhexedFrame written
+  unfolding unhexed unhexedFrame unhexedBytes
   unhex-bytes e h = rw (e, le-ltb (length frame) (length line / 2) h) (refl, refl)
 
 -- ---- what the answer tells

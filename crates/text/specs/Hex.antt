@@ -46,14 +46,14 @@ unfoldable pub unhexed : List ℕ → ℕ → Hex
 unhexed line room = cond (bad line) Bad (cond (ltb room (length line / 2)) Room (Bytes (length line / 2)))
 
 -- What is written: "An empty line is a frame of no bytes."
-unfoldable pub written : Hex → List ℕ → List ℕ
-written (Bytes k) line = pairs line
-written Bad line = []
-written Room line = []
+unfoldable pub unhexedBytes : Hex → List ℕ → List ℕ
+unhexedBytes (Bytes k) line = pairs line
+unhexedBytes Bad line = []
+unhexedBytes Room line = []
 
 -- The lent frame at exit.
 unfoldable pub unhexedFrame : List ℕ → List ℕ → List ℕ
-unhexedFrame line frame = over (written (unhexed line (length frame)) line) frame
+unhexedFrame line frame = over (unhexedBytes (unhexed line (length frame)) line) frame
 
 -- ---- a page
 
@@ -71,10 +71,10 @@ unfoldable pub spelt : ℕ → ℕ → Spelled
 spelt count room = cond (ltb (room / 2) count) spelled.Room (spelled.Characters (2 * count))
 
 -- What is written.
-unfoldable pub writtenOut : Spelled → List ℕ → List ℕ
-writtenOut (spelled.Characters k) bytes = spelling bytes
-writtenOut spelled.Room bytes = []
+unfoldable pub speltCharacters : Spelled → List ℕ → List ℕ
+speltCharacters (spelled.Characters k) bytes = spelling bytes
+speltCharacters spelled.Room bytes = []
 
 -- The lent text at exit.
 unfoldable pub speltText : List ℕ → List ℕ → List ℕ
-speltText bytes text = over (writtenOut (spelt (length bytes) (length text)) bytes) text
+speltText bytes text = over (speltCharacters (spelt (length bytes) (length text)) bytes) text

@@ -16,18 +16,18 @@ use Rattle.rows.specs.Rows.{rowCount, rowsOf}
 use Rattle.rows.proofs.Lists.{length-rowsOf}
 use Rattle.reading.specs.declared.Answer.{Answer}
 use Rattle.reading.specs.declared.Answer.the-variants as answer
-use Rattle.reading.specs.Answer.{numbersOf}
+use Rattle.reading.specs.Answer.{answerNumbers}
 use Rattle.reading.specs.Outcome.{Lent, Outcome, Check, passes, refuses, usesMarks, read, after}
 use Rattle.reading.proofs.Checks.{passed, roomy-fits}
 use Rattle.reading.proofs.Demand1.{read-late}
 use Rattle.reading.proofs.Spread.{length-marks}
-use Rattle.reader.specs.Finish.{gives}
+use Rattle.reader.specs.Finish.{outcomeOf}
 use Rattle.both.specs.Both as spec
 use Rattle.both.specs.Both.{Second, Pair, lentToo, checksBoth, alone, withSecond}
 use Rattle.both.specs.declared.Both.{Both}
 use Rattle.both.specs.Parts.{second, pair}
 use Rattle.both.proofs.Pairing.{both-early, asked-fits, plain-check, passing as both-passing}
-use Rattle.pairs.specs.Pairs.{pairs, counted, writesNothing, putMarks}
+use Rattle.pairs.specs.Pairs.{pairCounts, counted, writesNothing, putMarks}
 use Rattle.versions.specs.Versions.{countedToo, bothInPairs}
 use Rattle.pairs.proofs.Counted.{read-marks, nothing-early, something-late}
 use Rattle.versions.proofs.Marking.{withUses, withUsesToo, markedBoth, checks-same, secondMarks, by-marks, second-many, second-most, first-answer, refused-alone}
@@ -45,9 +45,9 @@ module _ (n l : ℕ) (list : List ℕ) (lent : Lent) (s : Second) (counts counts
   rows = rowsOf l list
 
   same : checksBoth n l list own own₂ ≡ checksBoth n l list (counted lent) (countedToo s)
-  unfolding pairs
+  unfolding pairCounts
   same =
-      checks-same n l list lent s counts (pairs (lent .uses)) counts₂ (pairs (s .uses))
+      checks-same n l list lent s counts (pairCounts (lent .uses)) counts₂ (pairCounts (s .uses))
       (size ∙ ap (λ (k : ℕ). min k 512) (sym (length-numbers 2 (length (lent .uses) / 2) (lent .uses)))) (size₂ ∙ ap (λ (k : ℕ). min k 512) (sym (length-numbers 2 (length (s .uses) / 2) (s .uses))))
 
   abbrev Wanted : List ℕ → List ℕ → Type 0
@@ -55,17 +55,17 @@ module _ (n l : ℕ) (list : List ℕ) (lent : Lent) (s : Second) (counts counts
 
   -- refused
   module _ (r : Answer) (refused : checksBoth n l list own own₂ ≡ refuses r) where
-    early : (1 ≤ numbersOf r .number) × (numbersOf r .number ≤ 4)
+    early : (1 ≤ answerNumbers r .number) × (answerNumbers r .number ≤ 4)
     early = rw refused at (both-early n l list own own₂)
 
-    refused-told : pair answers left left₂ ≡ alone (gives r own) own₂
+    refused-told : pair answers left left₂ ≡ alone (outcomeOf r own) own₂
     unfolding spec.both after
-    refused-told = told ∙ rw refused (refused-alone n l rows (gives r own) own₂ (early .0))
+    refused-told = told ∙ rw refused (refused-alone n l rows (outcomeOf r own) own₂ (early .0))
 
-    refused-pairs : bothInPairs n l list lent s ≡ markedBoth (lent .uses) (s .uses) (alone (gives r own) own₂)
-    unfolding bothInPairs spec.both after pairs
+    refused-pairs : bothInPairs n l list lent s ≡ markedBoth (lent .uses) (s .uses) (alone (outcomeOf r own) own₂)
+    unfolding bothInPairs spec.both after pairCounts
     refused-pairs =
-        rw (sym same ∙ refused, refused-alone n l rows (gives r (counted lent)) (countedToo s) (early .0))
+        rw (sym same ∙ refused, refused-alone n l rows (outcomeOf r (counted lent)) (countedToo s) (early .0))
         (unfold alone in ap₂ (λ us vs. pair (record { first = r; second = answer.Few 0; rows = 0 }) (withUses us lent) (withUsesToo vs s))
         (over-same 2 (length (lent .uses) / 2) (lent .uses) (omega arith) b) (over-same 2 (length (s .uses) / 2) (s .uses) (omega arith) b₂))
 
@@ -90,24 +90,24 @@ module _ (n l : ℕ) (list : List ℕ) (lent : Lent) (s : Second) (counts counts
     -- whatever the uses were
     with-marks : (us vs : List ℕ) → withSecond n l rows (read n l rows (withUses us lent)) (withUsesToo vs s) ≡ markedBoth (over (usesMarks rows) us) (over marks₂ vs) both
     with-marks us vs =
-        rw (read-marks n l rows (lent .page) (lent .roles) (lent .scratch) us (pairs (lent .uses)))
-        (by-marks n l rows s vs (pairs (s .uses)) first (over (usesMarks rows) us))
+        rw (read-marks n l rows (lent .page) (lent .roles) (lent .scratch) us (pairCounts (lent .uses)))
+        (by-marks n l rows s vs (pairCounts (s .uses)) first (over (usesMarks rows) us))
 
     passing-told : pair answers left left₂ ≡ markedBoth (over (usesMarks rows) counts) (over marks₂ counts₂) both
     unfolding spec.both after
     passing-told = told ∙ rw passing (with-marks counts counts₂)
 
     passing-pairs : bothInPairs n l list lent s
-        ≡ markedBoth (over (flat 2 (over (usesMarks rows) (pairs (lent .uses)))) (lent .uses)) (over (flat 2 (over marks₂ (pairs (s .uses)))) (s .uses)) both
+        ≡ markedBoth (over (flat 2 (over (usesMarks rows) (pairCounts (lent .uses)))) (lent .uses)) (over (flat 2 (over marks₂ (pairCounts (s .uses)))) (s .uses)) both
     unfolding bothInPairs spec.both after
     passing-pairs =
         rw (sym same ∙ passing)
-        (ap (λ (p : Pair). markedBoth (over (flat 2 (p .lent .uses)) (lent .uses)) (over (flat 2 (p .second .uses)) (s .uses)) both) (with-marks (pairs (lent .uses)) (pairs (s .uses))))
+        (ap (λ (p : Pair). markedBoth (over (flat 2 (p .lent .uses)) (lent .uses)) (over (flat 2 (p .second .uses)) (s .uses)) both) (with-marks (pairCounts (lent .uses)) (pairCounts (s .uses))))
 
     passing-something : writesNothing (answers .first) ≡ false
     passing-something =
         rw (ap (λ (p : Pair). p .answers .first) passing-told ∙ first-answer n l rows first (countedToo s))
-        (something-late (first .answer) (λ h. read-late n l rows (counted lent) .numbered h .0))
+        (something-late (first .answer) (λ h. read-late n l rows (counted lent) .lateNumber h .0))
 
     -- there is a count for each row of either list
     many₂ : answers .rows ≡ length marks₂
@@ -123,17 +123,17 @@ module _ (n l : ℕ) (list : List ℕ) (lent : Lent) (s : Second) (counts counts
         omega (arith, many₂, second-most n l rows first (countedToo s), length-rowsOf l list, room .uses)
 
     passing-same : Wanted (over (flat 2 (take (rowCount l list) (left .uses))) (lent .uses)) (over (flat 2 (take (answers .rows) (left₂ .uses))) (s .uses))
-    unfolding pairs
+    unfolding pairCounts
     passing-same =
         ap (λ (p : Pair). markedBoth (over (flat 2 (take (rowCount l list) (p .lent .uses))) (lent .uses)) (over (flat 2 (take (p .answers .rows) (p .second .uses))) (s .uses)) p) passing-told
         ∙ ap₂ (λ us vs. markedBoth (over (flat 2 us) (lent .uses)) (over (flat 2 vs) (s .uses)) both)
         (take-over (usesMarks rows) counts (rowCount l list) (length-marks l list)) (take-over marks₂ counts₂ (both .answers .rows) (second-many n l rows first (countedToo s)))
         ∙ sym (passing-pairs ∙ ap₂ (λ us vs. markedBoth us vs both) kept-tail kept-tail₂)
       where
-        kept-tail : over (flat 2 (over (usesMarks rows) (pairs (lent .uses)))) (lent .uses) ≡ over (flat 2 (usesMarks rows)) (lent .uses)
+        kept-tail : over (flat 2 (over (usesMarks rows) (pairCounts (lent .uses)))) (lent .uses) ≡ over (flat 2 (usesMarks rows)) (lent .uses)
         kept-tail = over-flat 2 (usesMarks rows) (length (lent .uses) / 2) (lent .uses) (rw (length-marks l list) (omega (arith, enough, size))) (omega arith) b
 
-        kept-tail₂ : over (flat 2 (over marks₂ (pairs (s .uses)))) (s .uses) ≡ over (flat 2 marks₂) (s .uses)
+        kept-tail₂ : over (flat 2 (over marks₂ (pairCounts (s .uses)))) (s .uses) ≡ over (flat 2 marks₂) (s .uses)
         kept-tail₂ = over-flat 2 marks₂ (length (s .uses) / 2) (s .uses) (omega (arith, many₂, enough₂, size₂)) (omega arith) b₂
 
   -- ---- by what the first answer says

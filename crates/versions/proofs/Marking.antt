@@ -10,7 +10,7 @@ use lib.ListN.{length}
 use Rattle.octets.specs.Octets.{flat, over}
 use Rattle.rows.specs.Rows.{shape, rowBytes, rowCount, rowsOf}
 use Rattle.reading.specs.declared.Answer.the-variants as answer
-use Rattle.reading.specs.Answer.{numbersOf}
+use Rattle.reading.specs.Answer.{answerNumbers}
 use Rattle.reading.specs.Reading.{pickedRows, pageOf}
 use Rattle.reading.specs.Outcome.{Lent, Outcome, Check, refuses, wholeRows, roomy, strayFrom, usesMarks, gave, roomFor}
 use Rattle.reading.proofs.Checks.{most-512}
@@ -57,7 +57,7 @@ secondMarks n l rows o = cond (gave o) (usesMarks (rest n l rows)) []
 module _ (n l : ℕ) (rows : List ℕ) (s : Second) (vs vs' : List ℕ) where
   pub by-marks : (o : Outcome) (w : List ℕ) → withSecond n l rows (marked w o) (withUsesToo vs s) ≡ markedBoth w (over (secondMarks n l rows o) vs) (withSecond n l rows o (withUsesToo vs' s))
   unfolding withSecond secondMarks gave alone followed over
-  by-marks o w = go (eqb (numbersOf (o .answer) .number) 0)
+  by-marks o w = go (eqb (answerNumbers (o .answer) .number) 0)
     where
       build : Outcome → Pair
       build x =
@@ -97,6 +97,6 @@ module _ (n l : ℕ) (rows : List ℕ) (o : Outcome) (s : Second) where
       go true = refl
       go false = refl
 
-  pub refused-alone : 1 ≤ numbersOf (o .answer) .number → withSecond n l rows o s ≡ alone o s
+  pub refused-alone : 1 ≤ answerNumbers (o .answer) .number → withSecond n l rows o s ≡ alone o s
   unfolding withSecond
   refused-alone h = rw (none-given o h)

@@ -4,11 +4,11 @@ use mathlib.Core.List.{List}
 use Rattle.octets.specs.Octets.{flat, over}
 use Rattle.reading.specs.Outcome.{Lent}
 use Rattle.both.specs.Both.{Second, Pair, both}
-use Rattle.pairs.specs.Pairs.{pairs, counted, paired}
+use Rattle.pairs.specs.Pairs.{pairCounts, counted, paired}
 
 -- Uses are bytes, as in a single reading: to the reader the numbers that pairs of them stand for, and pairs again at exit.
 abbrev pub countedToo : Second → Second
-countedToo s = record { list = s .list; page = s .page; uses = pairs (s .uses); roles = s .roles }
+countedToo s = record { list = s .list; page = s .page; uses = pairCounts (s .uses); roles = s .roles }
 
 abbrev pub pairedToo : List ℕ → Second → Second
 pairedToo bytes s = record { list = s .list; page = s .page; uses = over (flat 2 (s .uses)) bytes; roles = s .roles }

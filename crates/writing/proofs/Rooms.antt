@@ -12,24 +12,24 @@ use Rattle.rows.specs.Make.{cut}
 use Rattle.rows.proofs.Pages.{cut-symbols}
 use Rattle.writing.specs.declared.Written.the-variants.{Done, Shape, Length, Room}
 use Rattle.frame.specs.Layout.{frameLength}
-use Rattle.writing.specs.Writing.{written, sumBytes}
+use Rattle.writing.specs.Writing.{writeAnswer, sumBytes}
 
 module _ (n l : ℕ) (page room : List ℕ) where
-  pub written-shape : shape n l ≡ false → written n l page room ≡ Shape
-  unfolding written
+  pub written-shape : shape n l ≡ false → writeAnswer n l page room ≡ Shape
+  unfolding writeAnswer
   written-shape s = rw s
 
   module _ (s : shape n l ≡ true) where
-    pub written-length : (length page ≡ n * l → ⊥) → written n l page room ≡ Length
-    unfolding written
+    pub written-length : (length page ≡ n * l → ⊥) → writeAnswer n l page room ≡ Length
+    unfolding writeAnswer
     written-length h = rw (s, ne-eqb (length page) (n * l) h)
 
-    pub written-room : length page ≡ n * l → length room < frameLength l → written n l page room ≡ Room
-    unfolding written
+    pub written-room : length page ≡ n * l → length room < frameLength l → writeAnswer n l page room ≡ Room
+    unfolding writeAnswer
     written-room e h = rw (s, eq-eqb (length page) (n * l) e, lt-ltb (length room) (frameLength l) h)
 
-    pub written-done : length page ≡ n * l → frameLength l ≤ length room → written n l page room ≡ Done
-    unfolding written
+    pub written-done : length page ≡ n * l → frameLength l ≤ length room → writeAnswer n l page room ≡ Done
+    unfolding writeAnswer
     written-done e h = rw (s, eq-eqb (length page) (n * l) e, le-ltb (length room) (frameLength l) h)
 
 -- a page of nL bytes has n symbols of L

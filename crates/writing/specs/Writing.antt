@@ -22,8 +22,8 @@ unfoldable pub placeOf : Written → ℕ
 placeOf a = 0
 
 -- "Order: 1 shape; 8, page length other than nL; 3, room under 22+L."
-unfoldable pub written : ℕ → ℕ → List ℕ → List ℕ → Written
-written n l page room =
+unfoldable pub writeAnswer : ℕ → ℕ → List ℕ → List ℕ → Written
+writeAnswer n l page room =
     cond (not (shape n l)) Shape
     (cond (not (eqb (length page) (n * l))) Length
     (cond (ltb (length room) (frameLength l)) Room

@@ -1,6 +1,6 @@
 // Writes frames. Document 01, "The frame".
 ghost use mathlib.Core.Path.{_≡_};
-ghost use Rattle.writing.specs.Writing.{written, frameOf, roomAfter};
+ghost use Rattle.writing.specs.Writing.{writeAnswer, frameOf, roomAfter};
 
 mod put;
 
@@ -17,7 +17,7 @@ pub enum Written {
 
 // Writes the frame of a page and a seed, at the start of room.
 pub fn write(page_number: u32, n: u8, l: u8, seed: u32, page: &[u8], room: &mut [u8]) -> Written
-    ensures answer { λ r. ⌜ r ≡ written n l (now (page .entry)) (now (room .entry)) ⌝ }
+    ensures answer { λ r. ⌜ r ≡ writeAnswer n l (now (page .entry)) (now (room .entry)) ⌝ }
     ensures room { λ r. ⌜ now (room .exit) ≡ roomAfter r (frameOf «page_number» n l seed (now (page .entry))) (now (room .entry)) ⌝ }
 {
     if !rows::shaped(n, l) {

@@ -20,7 +20,7 @@ gather-requires : tie.Need-gather-requires
 gather-requires c κs =
     let S = c .before .before .before .before .before .before .before .before in
     let range = shape-range (S .args .n) (S .args .l) (passed (S .args .n) (S .args .l) (S .args .list .now) (lentToo (S .args .scratch .now) (second (S .args .list2 .now) (S .args .page2 .now) (S .args .uses2 .now) (S .args .roles2 .now))) (S .pre .passing) .shaped) in
-    (range .l-low, range .l-high, S .pre .listed)
+    (range .l-low, range .l-high, S .pre .listRoom)
 
 add-end : tie.Need-add-end
 add-end c = search needs

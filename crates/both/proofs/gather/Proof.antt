@@ -35,17 +35,17 @@ room c =
 add-end : tie.Need-add-end Inv-loop μ-loop
 add-end c = omega (arith, room c, c .before .before .before .before .before .good)
 
-sub-place : tie.Need-sub-place Inv-loop μ-loop
-sub-place c = omega arith
+sub-append : tie.Need-sub-append Inv-loop μ-loop
+sub-append c = omega arith
 
-part-place-start : tie.Need-part-place-start Inv-loop μ-loop
-part-place-start c = search needs
+part-append-start : tie.Need-part-append-start Inv-loop μ-loop
+part-append-start c = search needs
 
-part-place-end : tie.Need-part-place-end Inv-loop μ-loop
-part-place-end c = omega (arith, room (c .before))
+part-append-end : tie.Need-part-append-end Inv-loop μ-loop
+part-append-end c = omega (arith, room (c .before))
 
-place-requires : tie.Need-place-requires Inv-loop μ-loop
-place-requires c κs =
+append-requires : tie.Need-append-requires Inv-loop μ-loop
+append-requires c κs =
     let S = c .before .before .before .before .before .before .before in
     let loop = c .before .before .before .loop in
     let size = row-size (8 + S .args .l) (S .args .list .now) (loop .i) (loop .at) (loop .inv .walk) (c .before .before .loop-test .taken) in
@@ -62,9 +62,9 @@ loop-again : tie.Need-loop-again Inv-loop μ-loop
 loop-again c =
     let S = c .before .before .before .before .before .before .before .before .before .before in
     let loop = c .before .before .before .before .before .before .loop in
-    let place = c .before .before .place in
+    let append = c .before .before .append in
     gathering-more (S .args .l) (S .args .list .now) (S .args .page .now) (S .args .into .now) (loop .into) (loop .k) (loop .at) (loop .i) (loop .inv) (c .before .before .before .before .before .loop-test .taken) (S .pre .2)
-    (S .pre .0) (S .pre .1) (known-below (S .args .list .now) (c .before .before .before .before .before .before .before .before .before .shared-slice-known .given)) (place .result) (place .last .0) (place .ensures) (place .kept .0)
+    (S .pre .0) (S .pre .1) (known-below (S .args .list .now) (c .before .before .before .before .before .before .before .before .before .shared-slice-known .given)) (append .result) (append .last .0) (append .ensures) (append .kept .0)
 
 same-length : tie.Need-same-length Inv-loop μ-loop
 same-length c = c .before .loop .inv .long
@@ -85,10 +85,10 @@ gather-spec =
     div-rows
     loop-holds
     add-end
-    sub-place
-    part-place-start
-    part-place-end
-    place-requires
+    sub-append
+    part-append-start
+    part-append-end
+    append-requires
     add-i
     loop-less
     loop-again

@@ -1,6 +1,6 @@
 -- `both::numbers_of` meets its contract.
 -- Assumes nothing.
-use Rattle.both.specs.Numbers.{numbersOf}
+use Rattle.both.specs.Numbers.{bothNumbers}
 use borrow.Author.Needs.{needs}
 use Rattle.both.proofs.numbers_of.Statement.{statement}
 use Rattle.both.proofs.numbers_of.Tie as tie
@@ -15,7 +15,7 @@ cast-t9 : tie.Need-cast-t9
 cast-t9 c = search needs
 
 returns : tie.Need-returns
-unfolding numbersOf
+unfolding bothNumbers
 returns c = rw (c .before .before .numbers-of .ensures, c .before .numbers-of2 .ensures)
 
 pub numbers-of-spec : {M : Type 1} → statement M

@@ -14,9 +14,9 @@ use Rattle.reading.specs.declared.Answer.{Answer}
 use Rattle.reading.specs.declared.Answer.the-variants as answer
 use Rattle.reading.specs.Outcome.{Lent, checks, passes, outcome}
 use Rattle.reading.proofs.Checks.{passed}
-use Rattle.reader.specs.Finish.{buffers, gives}
+use Rattle.reader.specs.Finish.{buffers, outcomeOf}
 use Rattle.both.specs.Both.{Second, alone}
-use Rattle.both.specs.Parts.{second, Ending, ending}
+use Rattle.both.specs.Parts.{second, SecondEnding, secondEnding}
 use Rattle.both.proofs.Pairing.{asked, room-refused, both-by, both-alone, no-page, page-passes, page-cut, both-follow, page-room, passing}
 use Rattle.both.proofs.read_both.Statement.{statement}
 use Rattle.both.proofs.read_both.Tie as tie
@@ -62,7 +62,7 @@ returns-2 c =
     let left : Lent = buffers (R .last .1 .1 .1 .0) (R .last .1 .1 .1 .1 .0) (R .last .1 .1 .1 .1 .1 .0) (R .last .1 .1 .1 .1 .1 .1 .0) in
     sym (both-alone (S .args .n) (S .args .l) (S .args .list .now) (lentOf S) (secondOf S)
     (sym (c .before .before .before .before .before .before .before .before .before .before .before .before .before .before .before .fits-too .ensures) ∙ not-false (c .before .before .before .before .before .before .before .before .before .before .before .before .before .before .before .fits-too .result) (c .before .before .before .before .before .before .before .before .before .before .before .before .before .before .if1 .left))
-    (gives (R .result) left) (R .ensures) (no-page (R .result) (c .match .keys2) left) ∙ (unfold alone in refl))
+    (outcomeOf (R .result) left) (R .ensures) (no-page (R .result) (c .match .keys2) left) ∙ (unfold alone in refl))
 
 -- ---- a page
 
@@ -78,8 +78,8 @@ leftOf c =
 abbrev pageAnswer : tie.After-enum-told → Answer
 pageAnswer c = answer.Page (c .enum-told .given .0 .0) (c .enum-told .given .0 .1 .0)
 
-told : (c : tie.After-enum-told) → gives (pageAnswer c) (leftOf c) ≡ outcome (startOf c .args .n) (startOf c .args .l) (startOf c .args .list .now) (lentOf (startOf c))
-told c = ap (λ (a : Answer). gives a (leftOf c)) (sym (c .enum-told .given .1)) ∙ c .before .before .before .before .before .before .before .before .before .before .read-list .ensures
+told : (c : tie.After-enum-told) → outcomeOf (pageAnswer c) (leftOf c) ≡ outcome (startOf c .args .n) (startOf c .args .l) (startOf c .args .list .now) (lentOf (startOf c))
+told c = ap (λ (a : Answer). outcomeOf a (leftOf c)) (sym (c .enum-told .given .1)) ∙ c .before .before .before .before .before .before .before .before .before .before .read-list .ensures
 
 passes-first : (c : tie.After-enum-told) → checks (startOf c .args .n) (startOf c .args .l) (startOf c .args .list .now) (lentOf (startOf c)) ≡ passes
 passes-first c = page-passes (startOf c .args .n) (startOf c .args .l) (startOf c .args .list .now) (lentOf (startOf c)) (c .enum-told .given .0 .0) (c .enum-told .given .0 .1 .0) (leftOf c) (told c)
@@ -139,12 +139,12 @@ returns-3 c =
     let K = c .before .before .before .before .before .before .before .before .before .before .before .before .before .before .before .before .before in
     let S = startOf K in
     let F = c .before .before .before .before .before .before .before .before .before .before .follow in
-    let e : Ending = ending (F .result) (second (F .last .1 .1 .1 .1 .1 .0) (F .last .1 .1 .1 .1 .1 .1 .0) (F .last .1 .1 .1 .1 .1 .1 .1 .0) (F .last .1 .1 .1 .1 .1 .1 .1 .1 .0)) (F .last .1 .1 .1 .1 .1 .1 .1 .1 .1 .0) in
+    let e : SecondEnding = secondEnding (F .result) (second (F .last .1 .1 .1 .1 .1 .0) (F .last .1 .1 .1 .1 .1 .1 .0) (F .last .1 .1 .1 .1 .1 .1 .1 .0) (F .last .1 .1 .1 .1 .1 .1 .1 .1 .0)) (F .last .1 .1 .1 .1 .1 .1 .1 .1 .1 .0) in
     let low = shape-range (S .args .n) (S .args .l) (passed (S .args .n) (S .args .l) (S .args .list .now) (lentOf S) (passes-first K) .shaped) .l-low in
     both-follow (S .args .n) (S .args .l) (S .args .list .now) (lentOf S) (K .enum-told .given .0 .0) (K .enum-told .given .0 .1 .0) (leftOf K) (told K) (secondOf S) _
     (page-cut (S .args .n) (S .args .l) (S .args .list .now) (lentOf S) (K .enum-told .given .0 .0) (K .enum-told .given .0 .1 .0) (leftOf K) (told K) low _ refl)
     _ (K .enum-told .given .1) e (F .ensures)
-    ∙ sym (both-by (S .args .n) (S .args .l) (S .args .list .now) (lentOf S) (secondOf S) (fitted K) (gives (pageAnswer K) (leftOf K)) (told K))
+    ∙ sym (both-by (S .args .n) (S .args .l) (S .args .list .now) (lentOf S) (secondOf S) (fitted K) (outcomeOf (pageAnswer K) (leftOf K)) (told K))
 
 pub read-both-spec : {M : Type 1} → statement M
 read-both-spec =

@@ -4,7 +4,7 @@ use mathlib.Core.Path.{ap, ap₂, _∙_}
 use Prim.Native.Nat.{ℕ}
 use mathlib.Core.List.{List}
 use Rattle.reading.specs.declared.Numbers.{Numbers}
-use Rattle.reading.specs.Answer.{numbersOf}
+use Rattle.reading.specs.Answer.{answerNumbers}
 use Rattle.reader.specs.Finish.{buffers}
 use Rattle.both.specs.Both.{Pair}
 use Rattle.both.specs.Parts.{second}
@@ -53,7 +53,7 @@ returns c =
     let R = c .before .before .before .before .before .before .before .before .before .before .before .before .before .before .before .before .before .before .read in
     ap₂ (λ (v : Numbers) (ns : List ℕ). crossing (v .number) ns (buffers (R .last .1 .1 .1 .0) (R .last .1 .1 .1 .1 .0) (R .last .1 .1 .1 .1 .1 .0) (R .last .1 .1 .1 .1 .1 .1 .1 .1 .1 .1 .0)) (second (R .last .1 .1 .1 .1 .1 .1 .0) (R .last .1 .1 .1 .1 .1 .1 .1 .0) (R .last .1 .1 .1 .1 .1 .1 .1 .1 .0) (R .last .1 .1 .1 .1 .1 .1 .1 .1 .1 .0)))
     (c .numbers-of2 .ensures) (c .before .numbers-of .ensures)
-    ∙ ap (λ (p : Pair). crossing (numbersOf (p .answers .first) .number) (both.numbersOf (p .answers)) (p .lent) (p .second)) (R .ensures)
+    ∙ ap (λ (p : Pair). crossing (answerNumbers (p .answers .first) .number) (both.bothNumbers (p .answers)) (p .lent) (p .second)) (R .ensures)
 
 pub mekorvat-read-both-spec : {M : Type 1} → statement M
 mekorvat-read-both-spec =

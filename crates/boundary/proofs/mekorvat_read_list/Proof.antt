@@ -3,7 +3,7 @@
 use Rattle.reader.specs.Finish.{buffers}
 use mathlib.Core.Path.{ap, _∙_}
 use Rattle.reading.specs.declared.Numbers.{Numbers}
-use Rattle.reading.specs.Answer.{numbersOf}
+use Rattle.reading.specs.Answer.{answerNumbers}
 use Rattle.reading.specs.Outcome.{Lent, Outcome}
 use Rattle.boundary.specs.Crossed.{Crossed, crossed}
 use borrow.Author.Needs.{needs}
@@ -36,7 +36,7 @@ unfolding crossed
 returns c =
     let read = c .before .before .before .before .before .before .before .before .before .read in
     let lent : Lent = buffers (read .last .1 .1 .1 .0) (read .last .1 .1 .1 .1 .0) (read .last .1 .1 .1 .1 .1 .0) (read .last .1 .1 .1 .1 .1 .1 .0) in
-    ap (λ (v : Numbers). across v lent) (c .numbers-of .ensures) ∙ ap (λ (o : Outcome). across (numbersOf (o .answer)) (o .lent)) (read .ensures)
+    ap (λ (v : Numbers). across v lent) (c .numbers-of .ensures) ∙ ap (λ (o : Outcome). across (answerNumbers (o .answer)) (o .lent)) (read .ensures)
 
 pub mekorvat-read-list-spec : {M : Type 1} → statement M
 mekorvat-read-list-spec =

@@ -7,7 +7,7 @@ use native.Mathlib.Omega.{arith}
 use denote.Ref.{now}
 use borrow.Author.Needs.{needs}
 use Rattle.frame.specs.declared.numbers.Numbers.{Numbers}
-use Rattle.frame.specs.Numbers.{numbersOf, payloadOf}
+use Rattle.frame.specs.Numbers.{frameNumbers, payloadOf}
 use Rattle.frame.proofs.Good.{refused-is, good-long}
 use Rattle.frame.proofs.payload.Statement.{statement}
 use Rattle.frame.proofs.payload.Tie as tie
@@ -26,7 +26,7 @@ unfolding payloadOf
 returns c =
     let called = c .before .before .read in
     let at = c .before .before .before .before .args .frame .ptr in
-    let none = ap numbersOf (sym (called .ensures)) ∙ refused-is (called .result) (c .before .match .keys2) .1 in
+    let none = ap frameNumbers (sym (called .ensures)) ∙ refused-is (called .result) (c .before .match .keys2) .1 in
     (rw none, ap (λ (k : ℕ). (at .0, k)) (sym (ap (λ (v : Numbers). v .offset + at .1) none ∙ zero-add (at .1))))
 
 cast-end : tie.Need-cast-end
@@ -48,7 +48,7 @@ part-result-end c =
     le-of-eq (sym (good-long frame _ _ _ _ (sym (c .before .before .before .read .ensures) ∙ found .1)))
 
 returns-2 : tie.Need-returns-2
-unfolding payloadOf numbersOf
+unfolding payloadOf frameNumbers
 returns-2 c =
     let found = c .before .before .found .given in
     let l = found .0 .1 .1 .0 in

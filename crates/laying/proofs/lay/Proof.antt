@@ -10,7 +10,7 @@ use Rattle.frame.specs.declared.Frame.{Frame}
 use Rattle.frame.specs.declared.Frame.the-variants.{Good}
 use Rattle.laying.specs.declared.Laid.the-variants.{Refused}
 use Rattle.frame.specs.Reading.{reading}
-use Rattle.frame.specs.Numbers.{numbersOf}
+use Rattle.frame.specs.Numbers.{frameNumbers}
 use Rattle.laying.specs.Laying.{samePage, listAfter}
 use Rattle.frame.proofs.Good.{refused-is, good-payload}
 use Rattle.laying.proofs.Laying.{laid-shape, laid-refused, laid-other, laid-placing, row-is}
@@ -48,19 +48,19 @@ returns-2 c =
     (ap Refused (read .ensures) ∙ sym (laid-refused _ _ _ _ _ _ (shaped (c .before .before)) not-good), refl)
 
 returns-3 : tie.Need-returns-3
-unfolding listAfter samePage numbersOf
+unfolding listAfter samePage frameNumbers
 returns-3 c =
     let told = c .before in
     (sym (laid-other _ _ _ _ _ _ (shaped (told .before .before .before .before)) _ _ _ _ (read-as told) (rw (ne-eqb _ _ (c .if2 .taken)))), refl)
 
 returns-4 : tie.Need-returns-4
-unfolding listAfter samePage numbersOf
+unfolding listAfter samePage frameNumbers
 returns-4 c =
     let told = c .before .before in
     (sym (laid-other _ _ _ _ _ _ (shaped (told .before .before .before .before)) _ _ _ _ (read-as told) (rw (eq-eqb _ _ (c .before .if2 .left), ne-eqb _ _ (c .if3 .taken)))), refl)
 
 returns-5 : tie.Need-returns-5
-unfolding listAfter samePage numbersOf
+unfolding listAfter samePage frameNumbers
 returns-5 c =
     let told = c .before .before .before in (
       sym (laid-other _ _ _ _ _ _ (shaped (told .before .before .before .before)) _ _ _ _ (read-as told)

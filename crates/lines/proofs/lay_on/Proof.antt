@@ -8,7 +8,7 @@ use denote.Ref.{now}
 use Rattle.laying.specs.Laying as laying
 use Rattle.lines.specs.declared.Expected.the-variants.{Only}
 use Rattle.lines.specs.declared.Line.{Line}
-use Rattle.lines.specs.Taking.{Outcome, gives, layOn, rowsAfter}
+use Rattle.lines.specs.Taking.{LineTaken, takenAs, layOn, rowsAfter}
 use Rattle.lines.proofs.Takes.{lays, laid-within, result-row}
 use Rattle.lines.proofs.lay_on.Statement.{statement}
 use Rattle.lines.proofs.lay_on.Tie as tie
@@ -33,7 +33,7 @@ told : (c : tie.After-line-of-laid) (more : ℕ) →
     let args = c .before .before .before .before .before .before .before .args in
     let line = c .line-of-laid .result in
     more ≡ rowsAfter line (args .rows) →
-    gives line (record { expected = Only (args .page); rows = more }) (c .before .before .before .lay .last .1 .1 .1 .1 .1 .0)
+    takenAs line (record { expected = Only (args .page); rows = more }) (c .before .before .before .lay .last .1 .1 .1 .1 .1 .0)
     ≡ layOn (args .page) (now (args .frame)) (args .rows) (now (args .list))
 told c more e =
     let args = c .before .before .before .before .before .before .before .args in
@@ -45,7 +45,7 @@ unfolding rowsAfter
 returns c =
     let rows = c .before .before .before .before .before .before .before .before .before .args .rows in
     let is = told (c .before .before) rows (sym (ap (λ (l : Line). rowsAfter l rows) (c .enum-told2 .given .1))) in
-    (ap (λ (o : Outcome). o .taken) is, ap (λ (o : Outcome). o .list) is)
+    (ap (λ (o : LineTaken). o .taken) is, ap (λ (o : LineTaken). o .list) is)
 
 add-t12 : tie.Need-add-t12
 add-t12 c =
@@ -64,7 +64,7 @@ unfolding rowsAfter
 returns-2 c =
     let rows = c .before .before .before .before .before .before .before .before .before .args .rows in
     let is = told (c .before .before) (rows + 1) (sym (ap (λ (l : Line). rowsAfter l rows) (c .enum-told .given .1))) in
-    (ap (λ (o : Outcome). o .taken) is, ap (λ (o : Outcome). o .list) is)
+    (ap (λ (o : LineTaken). o .taken) is, ap (λ (o : LineTaken). o .list) is)
 
 pub lay-on-spec : {M : Type 1} → statement M
 lay-on-spec =

@@ -10,7 +10,7 @@ use Prim.Native.Nat.{ℕ, _≤_}
 use lib.ListN.{length, take}
 use lib.Seq.{length-take-le}
 use Rattle.text.specs.Hex.{pairs, bad}
-use Rattle.lines.specs.Taking.{Outcome, takeFrame}
+use Rattle.lines.specs.Taking.{LineTaken, takeFrame}
 use Rattle.text.proofs.Unhexed.{bytes-told, none-told}
 use Rattle.lines.proofs.Takes.{line-bad, line-good}
 use Rattle.lines.proofs.take_bytes.Statement.{statement}
@@ -31,7 +31,7 @@ returns c =
     let args = start .args in
     let none = none-told (now (args .line)) (now (args .frame)) (start .pre) (rw (c .before .before .before .unhex .ensures .0) at (c .match .keys2)) in
     let is = line-bad (now (args .line)) (args .sheet) (now (args .list)) none in
-    (ap (λ (o : Outcome). o .taken) is, ap (λ (o : Outcome). o .list) is)
+    (ap (λ (o : LineTaken). o .taken) is, ap (λ (o : LineTaken). o .list) is)
 
 -- a good line: its bytes stand in the frame
 told : (c : tie.After-known-told) →
@@ -68,7 +68,7 @@ returns-2 c =
     let is =
     ap (λ (frame : List ℕ). takeFrame frame (args .sheet) (now (args .list))) (good .2)
     ∙ line-good (now (args .line)) (args .sheet) (now (args .list)) (good .0) in
-    (left .0 ∙ ap (λ (o : Outcome). o .taken) is, left .1 ∙ ap (λ (o : Outcome). o .list) is)
+    (left .0 ∙ ap (λ (o : LineTaken). o .taken) is, left .1 ∙ ap (λ (o : LineTaken). o .list) is)
 
 pub take-bytes-spec : {M : Type 1} → statement M
 take-bytes-spec =

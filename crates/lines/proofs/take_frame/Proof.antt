@@ -4,7 +4,7 @@ use mathlib.Core.Path.{sym, ap, _∙_}
 use borrow.Author.Needs.{needs}
 use denote.Ref.{now}
 use Rattle.frame.proofs.Good.{refused-is}
-use Rattle.lines.specs.Taking.{Outcome}
+use Rattle.lines.specs.Taking.{LineTaken}
 use Rattle.lines.proofs.Takes.{frame-refused, frame-good}
 use Rattle.lines.proofs.take_frame.Statement.{statement}
 use Rattle.lines.proofs.take_frame.Tie as tie
@@ -25,7 +25,7 @@ returns c =
     let is =
     frame-refused (now (args .frame)) (args .sheet) (now (args .list)) (read .result) (read .ensures)
     (refused-is (read .result) (c .before .match .keys2) .0) (c .line-of-frame .result) (c .line-of-frame .ensures) in
-    (ap (λ (o : Outcome). o .taken) is, ap (λ (o : Outcome). o .list) is)
+    (ap (λ (o : LineTaken). o .taken) is, ap (λ (o : LineTaken). o .list) is)
 
 expecting-requires : tie.Need-expecting-requires
 expecting-requires c κs = search needs
@@ -45,7 +45,7 @@ returns-2 c =
     let is =
     frame-good (now (args .frame)) (args .sheet) (now (args .list)) _ _ _ _ (sym (c .before .before .before .before .before .before .before .before .read .ensures) ∙ good .1)
     (expecting .result) (expecting .ensures) in
-    (laid .0 ∙ ap (λ (o : Outcome). o .taken) is, laid .1 ∙ ap (λ (o : Outcome). o .list) is)
+    (laid .0 ∙ ap (λ (o : LineTaken). o .taken) is, laid .1 ∙ ap (λ (o : LineTaken). o .list) is)
 
 pub take-frame-spec : {M : Type 1} → statement M
 take-frame-spec =

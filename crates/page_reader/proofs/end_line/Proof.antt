@@ -10,7 +10,7 @@ use Rattle.page_reader.proofs.end_line.Statement.{statement}
 use Rattle.page_reader.proofs.end_line.Tie as tie
 
 slice-aggregate-take : tie.Need-slice-aggregate-take
-slice-aggregate-take c = sym (length-take-le _ _ (c .before .before .before .pre .fits))
+slice-aggregate-take c = sym (length-take-le _ _ (c .before .before .before .pre .inRoom))
 
 take-requires : tie.Need-take-requires
 take-requires c κs = search needs
@@ -28,7 +28,7 @@ returns : tie.Need-returns
 returns c =
     let start = c .before .before .before .before .before .before .before .before .before .before in
     let take = c .before .before .before .before .before .take in
-    record { fits = omega arith; readable = rw (take .ensures .0) (take-readable _ (start .args .scan .sheet) (now (start .args .list)) (start .pre .readable)) }
+    record { inRoom = omega arith; readable = rw (take .ensures .0) (take-readable _ (start .args .scan .sheet) (now (start .args .list)) (start .pre .readable)) }
 
 pub end-line-spec : {M : Type 1} → statement M
 end-line-spec =

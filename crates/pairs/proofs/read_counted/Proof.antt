@@ -4,7 +4,7 @@ use mathlib.Core.Path.{ap, _∙_}
 use borrow.Author.Needs.{needs}
 use Rattle.octets.proofs.Runs.{known-below}
 use Rattle.rows.specs.Rows.{rowCount}
-use Rattle.reader.specs.Finish.{buffers, gives}
+use Rattle.reader.specs.Finish.{buffers, outcomeOf}
 use Rattle.pairs.proofs.Counted.{put-same}
 use Rattle.pairs.proofs.read_counted.Statement.{statement}
 use Rattle.pairs.proofs.read_counted.Tie as tie
@@ -41,7 +41,7 @@ unfolding rowCount
 returns c =
     let S = c .before .before .before .before .before .before .before .before .before .before .before .before .before .before .before .before .before .before .before .before .before .before .before .before in
     let R = c .before .before .before .before .before .before .before .before .before .before .before .before .before .read-list in
-    ap (λ t. gives (R .result) (buffers (R .last .1 .1 .1 .0) t (R .last .1 .1 .1 .1 .1 .0) (R .last .1 .1 .1 .1 .1 .1 .0))) (c .before .before .put-marks .ensures)
+    ap (λ t. outcomeOf (R .result) (buffers (R .last .1 .1 .1 .0) t (R .last .1 .1 .1 .1 .1 .0) (R .last .1 .1 .1 .1 .1 .1 .0))) (c .before .before .put-marks .ensures)
     ∙ put-same (S .args .n) (S .args .l) (S .args .list .now) (S .args .page .now) (S .args .roles .now) (S .args .scratch .now) (S .args .counts .now) (S .args .uses .now) (S .pre)
     (known-below (S .args .uses .now) (c .before .before .before .before .before .before .before .before .before .before .before .before .before .before .before .before .before .before .before .before .slice-known3 .given)) (R .result) (R .last .1 .1 .1 .0) (R .last .1 .1 .1 .1 .1 .0) (R .last .1 .1 .1 .1 .1 .1 .0) (R .last .1 .1 .1 .1 .0) (R .ensures) (R .kept .1 .1 .1 .1 .0)
 

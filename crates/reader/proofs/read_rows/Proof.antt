@@ -11,7 +11,7 @@ use lib.Seq.{length-take-le}
 use Rattle.reading.specs.Outcome.{scratchBytes}
 use Rattle.echelon.specs.State.{stateBytes}
 use Rattle.solve.specs.Solve.{slotBytes}
-use Rattle.reader.proofs.Ending.{room, listed, is-solvable, read-ends, part-long, cleared}
+use Rattle.reader.proofs.Ending.{room, passed-listed, is-solvable, read-ends, part-long, cleared}
 use Rattle.reader.proofs.read_rows.Statement.{statement}
 use Rattle.reader.proofs.read_rows.Tie as tie
 
@@ -30,7 +30,7 @@ sift-requires : tie.Need-sift-requires
 unfolding stateBytes
 sift-requires c κs =
     let S = c .before .before .before .before .before .before .before .before in
-    (listed _ _ _ _ (S .pre), le-of-eq (sym (length-take-le 29824 (S .args .scratch .now) (omega (arith, wide S)))), room _ _ _ _ (S .pre) .uses, room _ _ _ _ (S .pre) .roles)
+    (passed-listed _ _ _ _ (S .pre), le-of-eq (sym (length-take-le 29824 (S .args .scratch .now) (omega (arith, wide S)))), room _ _ _ _ (S .pre) .uses, room _ _ _ _ (S .pre) .roles)
 
 -- the scratch after the first part came back
 first-long : (c : tie.After-sift) → length (c .sift .last .1 .1 .1 .1 .1 .0 ++ drop 29824 (c .before .before .before .before .before .before .before .before .before .args .scratch .now)) ≡ length (c .before .before .before .before .before .before .before .before .before .args .scratch .now)
@@ -71,7 +71,7 @@ slice-aggregate-clear c =
     let S = c .before .before .before .before .before .before .before .before .before .before .before .before .before .before .before .before .before .before .before .before .before .before .before .before in
     let C = c .before .before .before .before .before .conclude in
     let X : List ℕ = C .last .1 .1 .1 .1 .1 .1 .0 ++ drop 5632 (c .before .before .before .before .before .before .before .before .before .before .before .before .before .before .before .sift .last .1 .1 .1 .1 .1 .0 ++ drop 29824 (S .args .scratch .now)) in
-    sym (length-take-le 32768 X (omega (arith, second-long (c .before .before .before .before .before), wide S)))
+    sym (length-take-le _ X (omega (arith, second-long (c .before .before .before .before .before), wide S)))
 
 clear-requires : tie.Need-clear-requires
 clear-requires c κs = search needs

@@ -1,7 +1,7 @@
 -- `reading::numbers_of` meets its contract: each arm of its match is a clause of the definition.
 -- Assumes nothing.
 use mathlib.Core.Path.{sym, ap, _∙_}
-use Rattle.reading.specs.Answer.{numbersOf}
+use Rattle.reading.specs.Answer.{answerNumbers}
 use borrow.Author.Needs.{needs}
 use Rattle.reading.proofs.numbers_of.Statement.{statement}
 use Rattle.reading.proofs.numbers_of.Tie as tie
@@ -55,36 +55,36 @@ ended-requires-4 : tie.Need-ended-requires-4
 ended-requires-4 c κs = search needs
 
 returns : tie.Need-returns
-unfolding numbersOf
-returns c = c .refused .ensures ∙ sym (ap numbersOf (c .before .enum-told .given .1))
+unfolding answerNumbers
+returns c = c .refused .ensures ∙ sym (ap answerNumbers (c .before .enum-told .given .1))
 
 returns-2 : tie.Need-returns-2
-unfolding numbersOf
-returns-2 c = c .refused2 .ensures ∙ sym (ap numbersOf (c .before .enum-told2 .given .1))
+unfolding answerNumbers
+returns-2 c = c .refused2 .ensures ∙ sym (ap answerNumbers (c .before .enum-told2 .given .1))
 
 returns-3 : tie.Need-returns-3
-unfolding numbersOf
-returns-3 c = c .refused3 .ensures ∙ sym (ap numbersOf (c .before .enum-told3 .given .1))
+unfolding answerNumbers
+returns-3 c = c .refused3 .ensures ∙ sym (ap answerNumbers (c .before .enum-told3 .given .1))
 
 returns-4 : tie.Need-returns-4
-unfolding numbersOf
-returns-4 c = c .refused4 .ensures ∙ sym (ap numbersOf (c .before .before .answer .given .1))
+unfolding answerNumbers
+returns-4 c = c .refused4 .ensures ∙ sym (ap answerNumbers (c .before .before .answer .given .1))
 
 returns-5 : tie.Need-returns-5
-unfolding numbersOf
-returns-5 c = c .ended .ensures ∙ sym (ap numbersOf (c .before .before .answer2 .given .1))
+unfolding answerNumbers
+returns-5 c = c .ended .ensures ∙ sym (ap answerNumbers (c .before .before .answer2 .given .1))
 
 returns-6 : tie.Need-returns-6
-unfolding numbersOf
-returns-6 c = c .ended2 .ensures ∙ sym (ap numbersOf (c .before .before .answer3 .given .1))
+unfolding answerNumbers
+returns-6 c = c .ended2 .ensures ∙ sym (ap answerNumbers (c .before .before .answer3 .given .1))
 
 returns-7 : tie.Need-returns-7
-unfolding numbersOf
-returns-7 c = c .ended3 .ensures ∙ sym (ap numbersOf (c .before .before .answer4 .given .1))
+unfolding answerNumbers
+returns-7 c = c .ended3 .ensures ∙ sym (ap answerNumbers (c .before .before .answer4 .given .1))
 
 returns-8 : tie.Need-returns-8
-unfolding numbersOf
-returns-8 c = c .ended4 .ensures ∙ sym (ap numbersOf (c .before .before .answer5 .given .1))
+unfolding answerNumbers
+returns-8 c = c .ended4 .ensures ∙ sym (ap answerNumbers (c .before .before .answer5 .given .1))
 
 pub numbers-of-spec : {M : Type 1} → statement M
 numbers-of-spec =

@@ -1,7 +1,7 @@
 -- `frame::numbers::numbers_of` meets its contract: each arm of its match is a clause of the definition.
 -- Assumes nothing.
 use mathlib.Core.Path.{sym, ap, _∙_}
-use Rattle.frame.specs.Numbers.{numbersOf}
+use Rattle.frame.specs.Numbers.{frameNumbers}
 use borrow.Author.Needs.{needs}
 use Rattle.frame.proofs.numbers.numbers_of.Statement.{statement}
 use Rattle.frame.proofs.numbers.numbers_of.Tie as tie
@@ -40,28 +40,28 @@ refusal-requires-5 : tie.Need-refusal-requires-5
 refusal-requires-5 c κs = search needs
 
 returns : tie.Need-returns
-unfolding numbersOf
-returns c = sym (ap numbersOf (c .before .found .given .1))
+unfolding frameNumbers
+returns c = sym (ap frameNumbers (c .before .found .given .1))
 
 returns-2 : tie.Need-returns-2
-unfolding numbersOf
-returns-2 c = c .refusal .ensures ∙ sym (ap numbersOf (c .before .before .found2 .given .1))
+unfolding frameNumbers
+returns-2 c = c .refusal .ensures ∙ sym (ap frameNumbers (c .before .before .found2 .given .1))
 
 returns-3 : tie.Need-returns-3
-unfolding numbersOf
-returns-3 c = c .refusal2 .ensures ∙ sym (ap numbersOf (c .before .before .found3 .given .1))
+unfolding frameNumbers
+returns-3 c = c .refusal2 .ensures ∙ sym (ap frameNumbers (c .before .before .found3 .given .1))
 
 returns-4 : tie.Need-returns-4
-unfolding numbersOf
-returns-4 c = c .refusal3 .ensures ∙ sym (ap numbersOf (c .before .before .found4 .given .1))
+unfolding frameNumbers
+returns-4 c = c .refusal3 .ensures ∙ sym (ap frameNumbers (c .before .before .found4 .given .1))
 
 returns-5 : tie.Need-returns-5
-unfolding numbersOf
-returns-5 c = c .refusal4 .ensures ∙ sym (ap numbersOf (c .before .enum-told .given .1))
+unfolding frameNumbers
+returns-5 c = c .refusal4 .ensures ∙ sym (ap frameNumbers (c .before .enum-told .given .1))
 
 returns-6 : tie.Need-returns-6
-unfolding numbersOf
-returns-6 c = c .refusal5 .ensures ∙ sym (ap numbersOf (c .before .before .found5 .given .1))
+unfolding frameNumbers
+returns-6 c = c .refusal5 .ensures ∙ sym (ap frameNumbers (c .before .before .found5 .given .1))
 
 pub numbers-of-spec : {M : Type 1} → statement M
 numbers-of-spec =

@@ -1,4 +1,4 @@
--- `both::place` meets its contract: a row that does not agree is laid behind the others.
+-- `both::append` meets its contract: a row that does not agree is laid behind the others.
 -- Assumes nothing.
 use mathlib.Core.Path.{_≡_, refl, sym, ap, _∙_}
 use Prim.Native.Nat.{_+_, _-_, _*_}
@@ -7,17 +7,17 @@ use lib.ListN.{length, take, drop}
 use Rattle.octets.proofs.Lay.{copied}
 use Rattle.octets.proofs.Views.{length-part}
 use Rattle.octets.proofs.Parts.{back}
-use Rattle.both.specs.Parts.{placed, gathers}
+use Rattle.both.specs.Parts.{appended, gathers}
 use native.Mathlib.Omega.{arith}
 use borrow.Author.Needs.{needs}
-use Rattle.both.proofs.place.Statement.{statement}
-use Rattle.both.proofs.place.Tie as tie
+use Rattle.both.proofs.append.Statement.{statement}
+use Rattle.both.proofs.append.Tie as tie
 
 agrees-requires : tie.Need-agrees-requires
 agrees-requires c κs = search needs
 
 returns : tie.Need-returns
-unfolding placed
+unfolding appended
 returns c = rw (sym (c .before .agrees .ensures) ∙ c .if1 .taken)
 
 mul-at : tie.Need-mul-at
@@ -45,7 +45,7 @@ same-length : tie.Need-same-length
 same-length c = search needs
 
 returns-2 : tie.Need-returns-2
-unfolding placed
+unfolding appended
 returns-2 c =
     let S = c .before .before .before .before .before .before .before .before .before in
     let w = length (S .args .row .now) in
@@ -56,8 +56,8 @@ returns-2 c =
     rw (sym (c .before .before .before .before .before .agrees .ensures) ∙ c .before .before .before .before .if1 .left)
     (rw (add-one (S .args .k)) (ap (gathers _) (back at (at + w - at) (c .before .before .copy .last .0) (S .args .list .now) (ap length row ∙ sym wide) ∙ rw row)))
 
-pub place-spec : {M : Type 1} → statement M
-place-spec =
+pub append-spec : {M : Type 1} → statement M
+append-spec =
     tie.close
     (tie.spec
     agrees-requires
