@@ -125,9 +125,9 @@ fn read_rows(page: Page, rows: usize, list: &[u8])
     requires { ⌜ page .n * page .l ≤ 2048 ⌝ }
 {
     let mut bytes = [0u8; 2048];
-    let mut uses = [0u16; 512];
-    let mut roles = [0u8; 512];
-    let mut scratch = [0u8; 32768];
+    let mut uses = [0u16; places::MOST_ROWS];
+    let mut roles = [0u8; places::MOST_ROWS];
+    let mut scratch = [0u8; checks::SCRATCH];
     let answer = reader::read_list(
         page.n,
         page.l,

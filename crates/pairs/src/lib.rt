@@ -7,8 +7,6 @@ ghost use Rattle.reader.specs.Finish.{buffers, outcomeOf};
 ghost use Rattle.pairs.specs.Pairs.{inPairs, writesNothing, putMarks};
 use reading::Answer;
 
-pub const MOST_ROWS: usize = 512;
-
 fn high(count: u16) -> u8
     ensures { λ r. ⌜ r ≡ count / 256 ⌝ }
 {
@@ -109,6 +107,6 @@ pub fn read(
     ensures { λ a. ⌜ outcomeOf a (buffers (now (page .exit)) (now (uses .exit)) (now (roles .exit)) (now (scratch .exit)))
         ≡ inPairs n l (now (list .entry)) (buffers (now (page .entry)) (now (uses .entry)) (now (roles .entry)) (now (scratch .entry))) ⌝ }
 {
-    let mut counts = [0u16; MOST_ROWS];
+    let mut counts = [0u16; places::MOST_ROWS];
     read_in(&mut counts, n, l, list, page, uses, roles, scratch)
 }

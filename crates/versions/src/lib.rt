@@ -105,8 +105,8 @@ pub fn read(
         ≡ bothInPairs n l (now (list .entry)) (buffers (now (page .entry)) (now (uses .entry)) (now (roles .entry)) (now (scratch .entry)))
         (second (now (list2 .entry)) (now (page2 .entry)) (now (uses2 .entry)) (now (roles2 .entry))) ⌝ }
 {
-    let mut counts = [0u16; pairs::MOST_ROWS];
-    let mut counts2 = [0u16; pairs::MOST_ROWS];
+    let mut counts = [0u16; places::MOST_ROWS];
+    let mut counts2 = [0u16; places::MOST_ROWS];
     read_in(
         &mut counts,
         &mut counts2,

@@ -72,7 +72,7 @@ slice-relend-prefix-clear c = omega (arith, long (c .before .before .before .bef
 slice-aggregate-clear : tie.Need-slice-aggregate-clear
 slice-aggregate-clear c =
     let K = c .before .before .before .before .before in
-    sym (length-take-le 5632 (K .write-page .last .1 .0 ++ drop 5632 (K .before .before .before .before .before .before .before .before .before .before .before .args .slots .now)) (long K))
+    sym (length-take-le _ (K .write-page .last .1 .0 ++ drop 5632 (K .before .before .before .before .before .before .before .before .before .before .before .args .slots .now)) (omega (arith, long K)))
 
 clear-requires : tie.Need-clear-requires
 clear-requires c κs = search needs
