@@ -2,10 +2,10 @@
 use Prim.Native.Nat.{ℕ, _-_}
 use lib.Count.{leadingZeros, trailingZeros}
 
--- The place of the highest set bit; 0 where none is set.
+-- The index of the highest set bit; 0 where none is set.
 unfoldable pub highest : ℕ → ℕ
 highest x = 63 - leadingZeros 64 x
 
--- The place of the lowest set bit; 64 where none is set.
+-- The index of the lowest set bit; 64 where none is set.
 unfoldable pub lowest : ℕ → ℕ
 lowest x = trailingZeros 64 x

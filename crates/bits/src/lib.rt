@@ -3,7 +3,7 @@ ghost use mathlib.Core.Path.{_≡_};
 ghost use Prim.Native.Nat.{_-_, _%_, _^_};
 ghost use Rattle.bits.specs.Bits.{highest, lowest};
 
-// The place of the highest set bit; 0 where none is set.
+// The index of the highest set bit; 0 where none is set.
 pub fn top(x: u64) -> usize
     ensures { λ r. ⌜ r ≡ highest x ⌝ }
 {
@@ -13,7 +13,7 @@ pub fn top(x: u64) -> usize
     63 - (u64::leading_zeros(x) as usize)
 }
 
-// The place of the lowest set bit; 64 where none is set.
+// The index of the lowest set bit; 64 where none is set.
 pub fn bottom(x: u64) -> usize
     ensures { λ r. ⌜ r ≡ lowest x ⌝ }
 {

@@ -48,7 +48,7 @@ usesMarked places counts = map (λ x. markOf 0 counts (givenBy x) .uses) (pairsI
 unfoldable pub rolesMarked : ℕ → List ℕ → List ℕ → List ℕ
 rolesMarked least places counts = map (λ x. markOf least counts (givenBy x) .role) (pairsIn places)
 
--- Both buffers have a place for each row.
+-- Both buffers have room for each row.
 unfoldable pub markable : List ℕ → List ℕ → List ℕ → Bool
 markable places uses roles = leb (length places / 2) (length uses) && leb (length places / 2) (length roles)
 
