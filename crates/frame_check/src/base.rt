@@ -64,7 +64,7 @@ fn write_from(page: &[u8], b: Base, room: &mut [u8])
     requires { ⌜ (length (now page) ≡ 2048) × (1 ≤ b .n) × (b .n ≤ 64) × (1 ≤ b .l) × (b .l ≤ 32) ⌝ }
 {
     let size = page_bytes(b);
-    writing::write(b.page, b.n, b.l, b.seed, &page[0..size], room);
+    let _ = writing::write(b.page, b.n, b.l, b.seed, &page[0..size], room);
 }
 
 // The frame of base k, at the start of room.

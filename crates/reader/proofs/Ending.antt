@@ -25,7 +25,7 @@ use Rattle.solve.specs.Solve.{chosen, slotBytes, solvable}
 use Rattle.solve.proofs.Chosen.{chosen-picked}
 use Rattle.choose.specs.Mark.{roleBy}
 use Rattle.reader.specs.Sift.{Listed, SiftedBy}
-use Rattle.reader.specs.Finish.{Ending, ends, finished, concluded, isPicked, Solvable, buffers, outcomeOf}
+use Rattle.reader.specs.Finish.{Ending, ends, finished, concluded, isPicked, Finishable, buffers, outcomeOf}
 
 -- ---- the definition, by what was chosen
 
@@ -73,7 +73,7 @@ module _ (n l : ℕ) (list : List ℕ) (lent : Lent) (P : checks n l list lent �
       record { some = r .l-low; most = r .l-high; whole = whole n l list lent p; many = rows-most n l list lent p }
 
   module _ (r : ℕ) (choice : Choice) (uses₁ roles₁ : List ℕ) (S : SiftedBy n (rowsOf l list) r choice (lent .uses) uses₁ (lent .roles) roles₁) where
-    pub is-solvable : isPicked choice → (slots : List ℕ) → slotBytes ≤ length slots → length roles₁ ≡ length (lent .roles) → Solvable n l list roles₁ slots (lent .page)
+    pub is-solvable : isPicked choice → (slots : List ℕ) → slotBytes ≤ length slots → length roles₁ ≡ length (lent .roles) → Finishable n l list roles₁ slots (lent .page)
     is-solvable k slots wide same = go choice refl k
       where
         fit : solvable n l list roles₁ slots (lent .page) ≡ true
@@ -81,7 +81,7 @@ module _ (n l : ℕ) (list : List ℕ) (lent : Lent) (P : checks n l list lent �
             rw (p .shaped) (rw (p .rowsWhole) (rw (le-leb (rowCount l list) (length roles₁) (omega (arith, room .roles, same)))
             (rw (le-leb slotBytes (length slots) wide) (rw (le-leb (n * l) (length (lent .page)) (room .page))))))
 
-        go : (c : Choice) → choice ≡ c → isPicked c → Solvable n l list roles₁ slots (lent .page)
+        go : (c : Choice) → choice ≡ c → isPicked c → Finishable n l list roles₁ slots (lent .page)
         go Few e none = absurd none
         go Tie e none = absurd none
         go (Picked t) e chose =

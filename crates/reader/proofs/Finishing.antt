@@ -28,9 +28,9 @@ use Rattle.solve.specs.Solve.{filled, pageIn, solveAnswer, solvePage}
 use Rattle.agreement.specs.Agreement.{agreementOf}
 use Rattle.solve.proofs.Filling.{Solving, fill-empty}
 use Rattle.solve.proofs.Pages.{page-right}
-use Rattle.reader.specs.Finish.{ends, finished, Solvable}
+use Rattle.reader.specs.Finish.{ends, finished, Finishable}
 
-module _ (n l : ℕ) (list roles slots page : List ℕ) (A : Solvable n l list roles slots page) where
+module _ (n l : ℕ) (list roles slots page : List ℕ) (A : Finishable n l list roles slots page) where
   abbrev rows : List ℕ
   rows = rowsOf l list
 

@@ -48,7 +48,7 @@ isPicked Few = ⊥
 isPicked Tie = ⊥
 isPicked (Picked least) = Unit {0}
 
-pub record Solvable (n l : ℕ) (list roles slots page : List ℕ) : Type 0 where
+pub record Finishable (n l : ℕ) (list roles slots page : List ℕ) : Type 0 where
   pub range : InRange n l
   pub room : n * l ≤ length page
   pub fit : solvable n l list roles slots page ≡ true

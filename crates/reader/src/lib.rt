@@ -6,7 +6,7 @@ ghost use Rattle.rows.specs.Rows.{rowCount, rowsOf};
 ghost use Rattle.reading.specs.Outcome.{checks, passes, read, outcome};
 ghost use Rattle.echelon.specs.State.{stateBytes};
 ghost use Rattle.reader.specs.Sift.{Listed, ChosenBy, SiftedBy};
-ghost use Rattle.reader.specs.Finish.{checkOf, ends, finished, concluded, isPicked, Solvable, buffers, outcomeOf};
+ghost use Rattle.reader.specs.Finish.{checkOf, ends, finished, concluded, isPicked, Finishable, buffers, outcomeOf};
 use checks::Gate;
 use checks::Stray;
 use choose::Choice;
@@ -74,7 +74,7 @@ fn finish(
     slots: &mut [u8],
     page: &mut [u8],
 ) -> Answer
-    requires { ⌜ Solvable n l (now list) (now roles) (now slots) (now page) ⌝ }
+    requires { ⌜ Finishable n l (now list) (now roles) (now slots) (now page) ⌝ }
     ensures { λ a. ⌜ ends a (now (page .exit)) ≡ finished n l (rowsOf l (now (list .entry))) rank (now (page .entry)) ⌝ }
 {
     let solved = solve::solve(n, l, list, roles, slots, page);
@@ -100,7 +100,7 @@ fn conclude(
     slots: &mut [u8],
     page: &mut [u8],
 ) -> Answer
-    requires { ⌜ (isPicked choice → Solvable n l (now list) (now roles) (now slots) (now page)) ⌝ }
+    requires { ⌜ (isPicked choice → Finishable n l (now list) (now roles) (now slots) (now page)) ⌝ }
     ensures { λ a. ⌜ ends a (now (page .exit)) ≡ concluded choice n l (rowsOf l (now (list .entry))) rank (now (page .entry)) ⌝ }
 {
     match choice {

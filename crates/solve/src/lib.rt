@@ -117,13 +117,13 @@ fn unit(work: &mut [u8], k: usize)
     octets::put(&mut work[..8], 1u64 << k);
 }
 
-// Writes symbol k over out.
+// Writes symbol k over out. Where the pass stops is nothing to it: what is left in the payload is the symbol.
 fn symbol(out: &mut [u8], work: &mut [u8], slots: &[u8], k: usize)
     requires { ⌜ Ready (8 + length (now out)) (now work) (now slots) × (k < 64) ⌝ }
     ensures { λ _. ⌜ now (out .exit) ≡ bytes (length (now (out .entry))) (symbolIn (length (now (out .entry))) (slotsIn (8 + length (now (out .entry))) (now (slots .entry))) k) ⌝ }
 {
     unit(work, k);
-    pass(work, slots);
+    let _ = pass(work, slots);
     octets::copy(out, &work[8..]);
 }
 
