@@ -7,8 +7,8 @@ use mathlib.Core.List.{List}
 use lib.ListN.{length, set, length-map}
 use Rattle.octets.specs.Octets.{over}
 use Rattle.octets.proofs.Fill.{Filling, filling-start, filling-more, filling-end}
-use Rattle.words.specs.Pairs.{pairsIn, pairAt}
-use Rattle.words.proofs.Pairs.{length-pairs}
+use Rattle.doubles.specs.Doubles.{pairsIn, pairAt}
+use Rattle.doubles.proofs.Doubles.{length-pairs}
 use Rattle.places.specs.Places.{givenBy}
 use Rattle.reading.proofs.Spread.{getD-mapped}
 use Rattle.choose.specs.declared.Marked.{Marked}

@@ -10,8 +10,8 @@ use lib.ListN.{length, drop, getD}
 use borrow.Author.Tests.{le-leb, lt-leb}
 use Rattle.space.specs.Lists.{marked, Below}
 use Rattle.space.proofs.Lists.{map-both}
-use Rattle.words.specs.Pairs.{pairsIn}
-use Rattle.words.proofs.Pairs.{pairs-lt}
+use Rattle.doubles.specs.Doubles.{pairsIn}
+use Rattle.doubles.proofs.Doubles.{pairs-lt}
 use Rattle.places.specs.Places.{placesAfter, placesOf, givenBy}
 use Rattle.reading.specs.Reading.{kept, uses, picks, picked}
 use Rattle.reading.specs.Outcome.{spread, usesMarks, rolesMarks, plain, telling}

@@ -5,7 +5,7 @@ use mathlib.Core.List.{List, map}
 use lib.Dec.{leb}
 use lib.ListN.{length}
 use Rattle.octets.specs.Octets.{over}
-use Rattle.words.specs.Pairs.{pairsIn, pairAt}
+use Rattle.doubles.specs.Doubles.{pairsIn, pairAt}
 use Rattle.places.specs.declared.Lookup.{Lookup}
 use Rattle.places.specs.declared.Lookup.the-variants.{Place, Nothing}
 use Rattle.places.specs.Places.{givenBy}

@@ -6,7 +6,7 @@ ghost use lib.Dec.{leb};
 ghost use lib.ListN.{length, set};
 ghost use Rattle.space.specs.Lists.{count};
 ghost use Rattle.octets.specs.Octets.{over};
-ghost use Rattle.words.specs.Pairs.{pairsIn};
+ghost use Rattle.doubles.specs.Doubles.{pairsIn};
 ghost use Rattle.choose.specs.Pick as pick;
 ghost use Rattle.choose.specs.Mark as marks;
 use places::Arrival;
@@ -39,7 +39,7 @@ fn reached(counts: &[u8], least: usize) -> usize
 {
     let mut sum = 0;
     for i in 0..counts.len() / 2 {
-        let uses = words::pair(counts, i) as usize;
+        let uses = doubles::pair(counts, i) as usize;
         sum += (least <= uses) as usize;
     }
     sum

@@ -1,7 +1,7 @@
 // The two ways to count rows, each a type of its own: by arrival, and by kept place. "a slip of one for the other must not compile."
 ghost use mathlib.Core.Path.{_≡_};
 ghost use Prim.Native.Nat.{_+_, _%_};
-ghost use Rattle.words.specs.Pairs.{pairAt, putPair};
+ghost use Rattle.doubles.specs.Doubles.{pairAt, putPair};
 ghost use lib.ListN.{take, drop};
 ghost use Rattle.places.specs.Places.{offsetAt, sizeAt, givenBy, named};
 
@@ -51,7 +51,7 @@ pub fn give(places: &mut [u8], arrival: Arrival, rank: usize) -> KeptPlace
     ensures places { λ _. ⌜ now (places .exit) ≡ putPair (arrival .0) ((rank + 1) % 65536) (now (places .entry)) ⌝ }
 {
     let number = (rank % 65536 + 1) % 65536;
-    words::put_pair(places, arrival.0, number as u16);
+    doubles::put_pair(places, arrival.0, number as u16);
     KeptPlace(rank)
 }
 
@@ -59,14 +59,14 @@ pub fn give(places: &mut [u8], arrival: Arrival, rank: usize) -> KeptPlace
 pub fn give_none(places: &mut [u8], arrival: Arrival)
     ensures { λ _. ⌜ now (places .exit) ≡ putPair (arrival .0) 0 (now (places .entry)) ⌝ }
 {
-    words::put_pair(places, arrival.0, 0);
+    doubles::put_pair(places, arrival.0, 0);
 }
 
 // The kept place that an arrival was given.
 pub fn given(places: &[u8], arrival: Arrival) -> Lookup
     ensures { λ r. ⌜ r ≡ givenBy (pairAt (arrival .0) (now (places .entry))) ⌝ }
 {
-    let number = words::pair(places, arrival.0) as usize;
+    let number = doubles::pair(places, arrival.0) as usize;
     if number == 0 {
         return Lookup::Nothing;
     }
@@ -79,14 +79,14 @@ pub fn given(places: &[u8], arrival: Arrival) -> Lookup
 pub fn uses(counts: &[u8], place: KeptPlace) -> u16
     ensures { λ r. ⌜ r ≡ pairAt (place .0) (now (counts .entry)) ⌝ }
 {
-    words::pair(counts, place.0)
+    doubles::pair(counts, place.0)
 }
 
 // The row at a kept place has no uses yet.
 pub fn no_uses(counts: &mut [u8], place: KeptPlace)
     ensures { λ _. ⌜ now (counts .exit) ≡ putPair (place .0) 0 (now (counts .entry)) ⌝ }
 {
-    words::put_pair(counts, place.0, 0);
+    doubles::put_pair(counts, place.0, 0);
 }
 
 // Turns the digit of a tail that names a kept place; a tail that is too short stays.

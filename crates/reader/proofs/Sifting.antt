@@ -9,7 +9,7 @@ use lib.ListN.{length, take, drop, length-drop}
 use lib.Seq.{length-take-le}
 use Rattle.space.specs.Lists.{Below}
 use Rattle.octets.specs.Octets.{numbers}
-use Rattle.words.specs.Pairs.{pairsIn}
+use Rattle.doubles.specs.Doubles.{pairsIn}
 use Rattle.places.specs.Places.{placesOf}
 use Rattle.octets.proofs.Runs.{below-parts}
 use Rattle.rows.specs.Rows.{rowsOf}

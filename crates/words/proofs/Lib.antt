@@ -2,4 +2,3 @@ pub mod Shifted
 pub mod Words
 pub mod Littles
 pub mod Settled
-pub mod Pairs

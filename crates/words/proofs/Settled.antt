@@ -9,10 +9,6 @@ use Rattle.words.proofs.little.Kinds as little
 use Rattle.words.proofs.little.Reads as little-contract
 use Rattle.words.proofs.put_little.Kinds as put-little
 use Rattle.words.proofs.put_little.Reads as put-little-contract
-use Rattle.words.proofs.pair.Kinds as pair
-use Rattle.words.proofs.pair.Reads as pair-contract
-use Rattle.words.proofs.put_pair.Kinds as put-pair
-use Rattle.words.proofs.put_pair.Reads as put-pair-contract
 
 pub word-settled : Settles word.ps word.r word-contract.Post
 word-settled κs args = unique (λ o is. ap (λ r. (r, (tt, (tt, tt)))) is)
@@ -22,9 +18,3 @@ little-settled κs args = unique (λ o is. ap (λ r. (r, (tt, (tt, tt)))) is)
 
 pub put-little-settled : Settles put-little.ps put-little.r put-little-contract.Post
 put-little-settled κs args = unique (λ o is. ap (λ v. (tt, (v, (tt, tt)))) is)
-
-pub pair-settled : Settles pair.ps pair.r pair-contract.Post
-pair-settled κs args = unique (λ o is. ap (λ r. (r, (tt, (tt, tt)))) is)
-
-pub put-pair-settled : Settles put-pair.ps put-pair.r put-pair-contract.Post
-put-pair-settled κs args = unique (λ o is. ap (λ v. (tt, (v, (tt, (tt, tt))))) is)

@@ -1,9 +1,8 @@
-// Eight bytes as one number of 64 bits, and two as one of 16: what takes bytes one by one takes them so here.
+// Eight bytes as one number of 64 bits: what takes bytes one by one takes them by eights here.
 ghost use mathlib.Core.Path.{_≡_};
 ghost use lib.ListN.{length};
 ghost use Rattle.octets.specs.Octets.{number};
 ghost use Rattle.words.specs.Words.{wordAt, littleOf, littleAt, littleBytes};
-ghost use Rattle.words.specs.Pairs.{pairAt, putPair};
 
 fn wide(x: u8) -> u64
     ensures { λ r. ⌜ r ≡ x ⌝ }
@@ -84,30 +83,4 @@ pub fn put_little(into: &mut [u8], x: u64)
         rest = rest / 256;
         i += 1;
     }
-}
-
-// ---- two bytes
-
-// The number at place i in a run of numbers of two bytes; 0 past the end.
-pub fn pair(from: &[u8], i: usize) -> u16
-    ensures { λ r. ⌜ r ≡ pairAt i (now (from .entry)) ⌝ }
-{
-    if from.len() / 2 <= i {
-        return 0;
-    }
-    let at = 2 * i;
-    (from[at] as u16) * 256 + (from[at + 1] as u16)
-}
-
-// Writes the number at place i in a run of numbers of two bytes; past the end nothing is written.
-pub fn put_pair(into: &mut [u8], i: usize, x: u16)
-    ensures { λ _. ⌜ now (into .exit) ≡ putPair i x (now (into .entry)) ⌝ }
-{
-    if into.len() / 2 <= i {
-        return;
-    }
-    let at = 2 * i;
-    let next = at + 1;
-    into[at] = (x / 256) as u8;
-    into[next] = (x % 256) as u8;
 }

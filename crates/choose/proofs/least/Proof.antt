@@ -3,8 +3,8 @@
 use Prim.Native.Nat.{_+_, _≤_}
 use native.Mathlib.Omega.{arith}
 use Rattle.octets.proofs.Runs.{known-below}
-use Rattle.words.specs.Pairs.{pairsIn}
-use Rattle.words.proofs.Pairs.{pairs-lt}
+use Rattle.doubles.specs.Doubles.{pairsIn}
+use Rattle.doubles.proofs.Doubles.{pairs-lt}
 use Rattle.choose.specs.Pick.{nonePicked, least as fewest}
 use Rattle.choose.proofs.Threshold.{least-le, least-halved}
 use Rattle.choose.proofs.least.Statement.{statement}

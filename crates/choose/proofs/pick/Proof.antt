@@ -2,8 +2,8 @@
 -- Assumes nothing.
 use borrow.Author.Needs.{needs}
 use borrow.Author.Tests.{lt-ltb, le-ltb, eq-eqb, ne-eqb}
-use Rattle.words.specs.Pairs.{pairsIn}
-use Rattle.words.proofs.Pairs.{length-pairs}
+use Rattle.doubles.specs.Doubles.{pairsIn}
+use Rattle.doubles.proofs.Doubles.{length-pairs}
 use Rattle.choose.specs.Pick.{choiceOf}
 use Rattle.choose.proofs.Threshold.{marked-least}
 use Rattle.choose.proofs.pick.Statement.{statement}

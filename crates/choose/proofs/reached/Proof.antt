@@ -6,8 +6,8 @@ use native.Mathlib.Omega.{arith}
 use lib.Dec.{leb}
 use borrow.Author.Needs.{needs}
 use lib.ListN.{length}
-use Rattle.words.specs.Pairs.{pairsIn}
-use Rattle.words.proofs.Pairs.{length-pairs}
+use Rattle.doubles.specs.Doubles.{pairsIn}
+use Rattle.doubles.proofs.Doubles.{length-pairs}
 use Rattle.choose.proofs.Counts.{Counting, counting-start, counting-more, counting-end}
 use Rattle.choose.proofs.reached.Statement.{statement}
 use Rattle.choose.proofs.reached.Tie as tie

@@ -5,7 +5,7 @@ use mathlib.Core.List.{List}
 use Prim.Native.Nat.{ℕ, _+_, _*_, _%_}
 use borrow.Rule.Slice.PartMut.{putMid}
 use Rattle.octets.specs.Octets.{bytes, lay}
-use Rattle.words.proofs.Pairs.{pair-part}
+use Rattle.doubles.proofs.Doubles.{pair-part}
 use Rattle.echelon.specs.State.{usesAt, placesAt, placedState}
 use Rattle.echelon.proofs.Places.{sizes}
 use native.Mathlib.Omega.{arith}

@@ -2,7 +2,7 @@
 -- Assumes nothing.
 use mathlib.Core.Path.{_≡_, refl, ap, _∙_}
 use Prim.Native.Nat.{ℕ, _+_, _%_}
-use Rattle.words.specs.Pairs.{putPair}
+use Rattle.doubles.specs.Doubles.{putPair}
 use native.Mathlib.Omega.{arith}
 use borrow.Author.Needs.{needs}
 use Rattle.places.proofs.give.Statement.{statement}

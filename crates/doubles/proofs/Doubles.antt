@@ -15,7 +15,7 @@ use Rattle.octets.proofs.Numbers.{length-bytes}
 use Rattle.octets.proofs.Lay.{length-lay, lay-within}
 use Rattle.octets.proofs.Parts.{back}
 use Rattle.octets.proofs.Views.{length-part}
-use Rattle.words.specs.Pairs.{pairsIn, pairAt, putPair}
+use Rattle.doubles.specs.Doubles.{pairsIn, pairAt, putPair}
 
 pub length-pairs : (bs : List ℕ) → length (pairsIn bs) ≡ length bs / 2
 length-pairs bs = length-numbers 2 (length bs / 2) bs

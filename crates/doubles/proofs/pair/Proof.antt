@@ -1,12 +1,12 @@
--- `words::pair` meets its contract: two bytes are one number, the first byte highest.
+-- `doubles::pair` meets its contract: two bytes are one number, the first byte highest.
 -- Assumes nothing.
 use mathlib.Core.Path.{sym}
 use Prim.Native.Nat.{_+_, _*_}
-use Rattle.words.proofs.Pairs.{pair-at, pair-past}
+use Rattle.doubles.proofs.Doubles.{pair-at, pair-past}
 use native.Mathlib.Omega.{arith}
 use borrow.Author.Needs.{needs}
-use Rattle.words.proofs.pair.Statement.{statement}
-use Rattle.words.proofs.pair.Tie as tie
+use Rattle.doubles.proofs.pair.Statement.{statement}
+use Rattle.doubles.proofs.pair.Tie as tie
 
 returns : tie.Need-returns
 returns c = sym (pair-past (c .before .args .from .now) (c .before .args .i) (c .if1 .taken))

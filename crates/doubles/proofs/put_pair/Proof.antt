@@ -1,14 +1,14 @@
--- `words::put_pair` meets its contract: both bytes are written, or none.
+-- `doubles::put_pair` meets its contract: both bytes are written, or none.
 -- Assumes nothing.
 use Prim.Native.Nat.{_*_, _/_}
 use lib.ListN.{length, length-set}
 use borrow.Author.Tests.{lt-ltb, le-ltb}
-use Rattle.words.specs.Pairs.{putPair}
-use Rattle.words.proofs.Pairs.{pair-laid}
+use Rattle.doubles.specs.Doubles.{putPair}
+use Rattle.doubles.proofs.Doubles.{pair-laid}
 use native.Mathlib.Omega.{arith}
 use borrow.Author.Needs.{needs}
-use Rattle.words.proofs.put_pair.Statement.{statement}
-use Rattle.words.proofs.put_pair.Tie as tie
+use Rattle.doubles.proofs.put_pair.Statement.{statement}
+use Rattle.doubles.proofs.put_pair.Tie as tie
 
 returns : tie.Need-returns
 unfolding putPair
