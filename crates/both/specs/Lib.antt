@@ -1,5 +1,3 @@
 pub mod Both
 pub mod Numbers
 pub mod Parts
-pub mod Added
-pub mod Saved

@@ -3,13 +3,6 @@ pub mod Uses
 pub mod Places
 pub mod Absorbing
 pub mod Vectors
-pub mod Written
-pub mod Offers
-pub mod OtherHolds
-pub mod KeptHolds
-pub mod Holding
 pub mod Turning
 pub mod Emptied
-pub mod EmptyHolds
-pub mod EachHolds
 pub mod Settled

@@ -17,8 +17,8 @@ use Rattle.reading.specs.Reading.{kept, rank, uses}
 use Rattle.echelon.specs.State.{usesAt, placesAt, stateBytes, usesIn, placesIn}
 use Rattle.echelon.specs.declared.Eliminated.the-variants.{Rank}
 use Rattle.echelon.specs.Eliminating.{elimination}
-use Rattle.echelon.specs.Holds.{Holds}
-use Rattle.echelon.proofs.EachHolds.{eliminated-holds}
+use Rattle.holding.specs.Holds.{Holds}
+use Rattle.holding.proofs.EachHolds.{eliminated-holds}
 use Rattle.basis.proofs.Model.{rank-room}
 use Rattle.octets.proofs.Views.{numbers-take}
 use Rattle.choose.specs.declared.Choice.{Choice}

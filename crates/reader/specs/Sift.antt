@@ -7,7 +7,7 @@ use Rattle.octets.specs.Octets.{over}
 use Rattle.rows.specs.Rows.{rowBytes, rowCount, rowsOf}
 use Rattle.reading.specs.Reading.{rank, uses}
 use Rattle.reading.specs.Outcome.{usesMarks, rolesMarks}
-use Rattle.echelon.specs.Holds.{Holds}
+use Rattle.holding.specs.Holds.{Holds}
 use Rattle.choose.specs.declared.Choice.{Choice}
 use Rattle.choose.specs.Pick.{choiceOf}
 use Rattle.choose.specs.Mark.{roleBy}

@@ -7,7 +7,7 @@ use Rattle.rows.specs.Rows.{rowsOf}
 use Rattle.reading.specs.Reading.{rank}
 use Rattle.echelon.specs.declared.Eliminated.the-variants.{Rank, Misfit}
 use Rattle.echelon.specs.State.{stateBytes}
-use Rattle.echelon.specs.Holds.{Holds}
+use Rattle.holding.specs.Holds.{Holds}
 use Rattle.choose.specs.Pick.{choiceOf}
 use Rattle.reader.proofs.Sifting.{rank-fits, eliminated, counts-tell}
 use native.Mathlib.Omega.{arith}

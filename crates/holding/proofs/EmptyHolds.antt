@@ -13,10 +13,10 @@ use Rattle.rows.specs.Rows.{rowBytes}
 use Rattle.reading.specs.Reading.{kept, keptAfter, keptRows, otherRows, rank, uses, usesOf}
 use Rattle.basis.specs.Algorithm2.{steps, start, algorithm2}
 use Rattle.slots.specs.Reducing.{slotsOf}
 use Rattle.echelon.specs.State.{vectorBytes, stateBytes, slotsIn, usesIn, placesIn}
-use Rattle.echelon.specs.Holds.{Holds}
+use Rattle.holding.specs.Holds.{Holds}
 use Rattle.echelon.specs.Eliminating.{emptied}
 use Rattle.echelon.proofs.Places.{sizes, slots-end}
 use Rattle.octets.proofs.Views.{numbers-take}
 use Rattle.octets.proofs.Loaded.{numbers-zeros}
 

@@ -15,14 +15,14 @@ use Rattle.reading.specs.Outcome.{Lent, Outcome, zeros, checks, ended, solved, 
 use Rattle.reading.proofs.Demand1.{read-late}
 use Rattle.reading.proofs.Given.{given-passes}
 use Rattle.checks.proofs.Gating.{outcome-read}
 use Rattle.both.specs.Both as spec
 use Rattle.both.specs.Both.{Second, lentToo, rest, roomyToo, checksBoth, alone, followed, withSecond}
-use Rattle.both.specs.Added.{firstOf, secondOf}
+use Rattle.saved_twice.specs.Added.{firstOf, secondOf}
 use Rattle.both.specs.Parts.{Passing}
-use Rattle.both.specs.Saved.{secondList}
-use Rattle.both.proofs.Given.{same-gave, both-passes, followed-both, second-list}
+use Rattle.saved_twice.specs.Saved.{secondList}
+use Rattle.saved_twice.proofs.Given.{same-gave, both-passes, followed-both, second-list}
 use Rattle.both.proofs.Rests.{rest-read}
 use Rattle.both.proofs.Pairing.{asked-fits, plain-check, passing}
 
 -- the scratch that a reading is lent does not matter, beyond what it clears
 scratch-again : (n l : ℕ) (rows scratch : List ℕ) (s : Second) → read n l rows (lentToo (over zeros scratch) s) ≡ read n l rows (lentToo scratch s)

@@ -23,11 +23,11 @@ use Rattle.reading.proofs.Page.{length-pageOf}
 use Rattle.reading.proofs.Checks.{Passed, passed, inside, whole, checks-shifted}
 use Rattle.reading.proofs.Given.{page-given}
 use Rattle.reading.proofs.Demand3.{moved-read, page-moved}
 use Rattle.both.specs.Both as spec
 use Rattle.both.specs.Both.{Second, Pair, lentToo, apart, rest, checksBoth, alone, followed, withSecond}
-use Rattle.both.specs.Added.{firstOf, addedSecond, addedBoth}
+use Rattle.saved_twice.specs.Added.{firstOf, addedSecond, addedBoth}
 use Rattle.both.proofs.Rests.{apart-below, apart-inside}
 use Rattle.both.proofs.Pairing.{checks-both, asked-fits, plain-check}
 
 -- ---- the rows of the second list
 

@@ -15,12 +15,12 @@ use Rattle.rows.specs.Rows.{rowBytes}
 use Rattle.reading.specs.Reading.{keptRows, rank, uses}
 use Rattle.reading.proofs.Pick.{length-uses}
 use Rattle.basis.specs.Algorithm2.{Pass, pass, Working, step, algorithm2}
 use Rattle.echelon.specs.State.{tailDigits, passIn, taken, absorption}
-use Rattle.echelon.specs.Holds.{Holds}
+use Rattle.holding.specs.Holds.{Holds}
 use Rattle.basis.proofs.Model.{Right, step-right, algorithm2-right, algorithm2-snoc, rank-most, rank-room, step-test}
 use Rattle.basis.proofs.Elimination.{rows-lt}
 use Rattle.echelon.proofs.Places.{sizes, tail-size}
 use Rattle.echelon.proofs.Absorbing.{Takes, takes-when, absorbed-so}
 
 pub record Offer (l : ℕ) (rows : List ℕ) (row : ℕ) (state : List ℕ) : Type 0 where
   pub holds : Holds l rows state

@@ -22,13 +22,13 @@ use Rattle.reading.proofs.OneMore.{kept-snoc}
 use Rattle.reading.specs.Raised.{raised}
 use Rattle.reading.proofs.Pick.{length-uses}
 use Rattle.basis.specs.Algorithm2.{digits, Pass, Working, counting, step}
 use Rattle.echelon.specs.State.{tailDigits, usesAt, placesAt, usesIn, placesIn, countedState}
-use Rattle.echelon.specs.Holds.{Holds}
+use Rattle.holding.specs.Holds.{Holds}
 use Rattle.basis.proofs.Model.{step-other}
 use Rattle.echelon.proofs.Places.{sizes}
-use Rattle.echelon.proofs.Offers.{Offer, key, before, p, narrow, wide, right, all-below, next, pass-is, ranked, fits, longer, slots-next}
+use Rattle.holding.proofs.Offers.{Offer, key, before, p, narrow, wide, right, all-below, next, pass-is, ranked, fits, longer, slots-next}
 use Rattle.reading.proofs.Ranks.{rank-other}
-use Rattle.echelon.proofs.Written.{slots-stay, pairs-before, pairs-behind, pairs-more, uses-anew}
+use Rattle.holding.proofs.Written.{slots-stay, pairs-before, pairs-behind, pairs-more, uses-anew}
 
 -- no row is used more often than there are rows
 pub uses-most : (m : ℕ) (rows : List ℕ) → length rows < m → Below m (uses rows)

@@ -15,16 +15,16 @@ use Rattle.octets.proofs.Runs.{numbers-small}
 use Rattle.rows.specs.Rows.{rowBytes, rowCount, rowsOf}
 use Rattle.rows.proofs.Lists.{length-rowsOf}
 use Rattle.reading.specs.Reading.{kept, keptAfter, keptRows, rank}
 use Rattle.echelon.specs.declared.Absorbed.the-variants.{Kept, Other}
 use Rattle.echelon.specs.declared.Eliminated.the-variants.{Rank}
 use Rattle.echelon.specs.State.{absorption}
-use Rattle.echelon.specs.Holds.{Holds}
+use Rattle.holding.specs.Holds.{Holds}
 use Rattle.echelon.specs.Eliminating.{Elimination, rankAfter, oneMore, absorbEach, emptied, elimination}
-use Rattle.echelon.proofs.Offers.{Offer}
+use Rattle.holding.proofs.Offers.{Offer}
 use Rattle.reading.proofs.Ranks.{rank-other, rank-kept}
-use Rattle.echelon.proofs.EmptyHolds.{empty-holds}
-use Rattle.echelon.proofs.Holding.{absorbed-answer, absorbed-holds}
+use Rattle.holding.proofs.EmptyHolds.{empty-holds}
+use Rattle.holding.proofs.Holding.{absorbed-answer, absorbed-holds}
 use Rattle.echelon.proofs.Emptied.{Eliminates, eliminates-when, eliminated-so}
 
 -- the rank that the answer gives
 rank-after : (rows : List ℕ) (row : ℕ) → rankAfter (cond (spans (keptRows rows) row) Other Kept) (rank rows) ≡ rank (rows ++ (row ∷ []))

@@ -13,11 +13,11 @@ use Rattle.reading.specs.Answer.{answerNumbers}
 use Rattle.reading.specs.Outcome.{Lent, Outcome, Check, passes, refuses, read, after, gave}
 use Rattle.reading.proofs.Demand1.{EarlyCheck}
 use Rattle.reading.proofs.Given.{none-given}
 use Rattle.both.specs.Both as spec
 use Rattle.both.specs.Both.{Second, rest, checksBoth, alone, followed, withSecond}
-use Rattle.both.specs.Added.{firstOf}
-use Rattle.both.specs.Saved.{secondList}
+use Rattle.saved_twice.specs.Added.{firstOf}
+use Rattle.saved_twice.specs.Saved.{secondList}
 use Rattle.both.proofs.Pairing.{both-early}
 
 -- ---- the first answer decides
 

@@ -22,14 +22,14 @@ use Rattle.reading.proofs.Checks.{passed, inside, whole}
 use Rattle.reading.proofs.Page.{length-pageOf, pageOf-below}
 use Rattle.reading.proofs.Demand2.{agreed-read}
 use Rattle.reading.proofs.Given.{page-given}
 use Rattle.both.specs.Both as spec
 use Rattle.both.specs.Both.{Second, lentToo, apart, rest, followed}
-use Rattle.both.specs.Added.{firstOf, secondOf}
-use Rattle.both.specs.Saved.{pageGiven, secondRows, OfEither}
+use Rattle.saved_twice.specs.Added.{firstOf, secondOf}
+use Rattle.saved_twice.specs.Saved.{pageGiven, secondRows, OfEither}
 use Rattle.both.proofs.Rests.{apart-below, apart-inside}
 use Rattle.both.proofs.Pairing.{plain-check}
-use Rattle.both.proofs.Given.{both-passes, first-given, followed-both, second-list}
-use Rattle.both.proofs.Demand2.{second-read}
+use Rattle.saved_twice.proofs.Given.{both-passes, first-given, followed-both, second-list}
+use Rattle.saved_twice.proofs.Demand2.{second-read}
 
 -- ---- of rows
 

@@ -19,13 +19,13 @@ use Rattle.places.proofs.OneMore.{places-snoc}
 use Rattle.reading.specs.Reading.{kept, keptRows, rank, uses}
 use Rattle.reading.proofs.OneMore.{kept-snoc}
 use Rattle.basis.specs.Algorithm2.{Pass, Working, keeping, step}
 use Rattle.echelon.specs.State.{mostKept, vectorBytes, tailDigits, usesAt, placesAt, headsAt, usesIn, placesIn, headAt, headOf, placedState, keptState}
-use Rattle.echelon.specs.Holds.{Holds}
+use Rattle.holding.specs.Holds.{Holds}
 use Rattle.basis.proofs.Model.{rank-most, step-kept}
 use Rattle.echelon.proofs.Places.{sizes, tail-size, slot-end, head-end, length-headOf}
-use Rattle.echelon.proofs.Offers.{Offer, key, before, p, narrow, wide, right, all-below, next, pass-is, ranked, longer, slots-next, test, vector-lt}
+use Rattle.holding.proofs.Offers.{Offer, key, before, p, narrow, wide, right, all-below, next, pass-is, ranked, longer, slots-next, test, vector-lt}
 use Rattle.reading.proofs.Ranks.{rank-kept, rank-marked}
-use Rattle.echelon.proofs.Written.{slots-stay, pairs-before, pairs-behind, pairs-more, slots-more}
+use Rattle.holding.proofs.Written.{slots-stay, pairs-before, pairs-behind, pairs-more, slots-more}
 
 module _ {l : ℕ} {rows : List ℕ} {row : ℕ} {state : List ℕ} (O : Offer l rows row state) (e : spans (keptRows rows) row ≡ false) where
   keeping-is : step (tailDigits (key O)) row (before O) ≡ keeping (p O) (before O)

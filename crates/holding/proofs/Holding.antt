@@ -9,13 +9,13 @@ use borrow.Author.Tests.{ltb-false}
 use Rattle.space.specs.Space.{spans}
 use Rattle.rows.specs.Rows.{rowBytes}
 use Rattle.reading.specs.Reading.{keptRows, rank}
 use Rattle.echelon.specs.declared.Absorbed.the-variants.{Kept, Other}
 use Rattle.echelon.specs.State.{Absorption, absorption}
-use Rattle.echelon.specs.Holds.{Holds}
+use Rattle.holding.specs.Holds.{Holds}
 use Rattle.echelon.proofs.Absorbing.{taken-other, taken-kept}
-use Rattle.echelon.proofs.Offers.{Offer, key, p, test, outcome}
-use Rattle.echelon.proofs.OtherHolds.{other-holds}
-use Rattle.echelon.proofs.KeptHolds.{stops, place-left, kept-holds}
+use Rattle.holding.proofs.Offers.{Offer, key, p, test, outcome}
+use Rattle.holding.proofs.OtherHolds.{other-holds}
+use Rattle.holding.proofs.KeptHolds.{stops, place-left, kept-holds}
 
 module _ {l : ℕ} {rows : List ℕ} {row : ℕ} {state : List ℕ} (O : Offer l rows row state) where
   abbrev after : Absorption

@@ -1,0 +1,4 @@
+pub mod Given
+pub mod Demand2
+pub mod Told
+pub mod Demand3
