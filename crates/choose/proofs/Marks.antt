@@ -1,12 +1,13 @@
 -- The marks are those that a reading leaves, where bytes tell the kept places of its arrivals and the uses of its kept rows.
 -- Assumes nothing.
 use mathlib.Core.Path.{_≡_, refl, ap, ap₂, _∙_}
-use Prim.Native.Nat.{ℕ, zero, suc, _+_, _/_, _≤_, _<_}
+use Prim.Native.Nat.{ℕ, suc, _+_, _/_, _≤_}
 use native.Mathlib.Omega.{arith}
 use mathlib.Core.Bool.{Bool, true, false, cond}
 use mathlib.Core.List.{List, [], _∷_, map, map-id}
 use lib.Dec.{leb}
 use lib.ListN.{length, drop, getD}
+use lib.Seq.{drop-cons}
 use borrow.Author.Tests.{le-leb, lt-leb}
 use Rattle.space.specs.Lists.{marked, Below}
 use Rattle.space.proofs.Lists.{map-both}
@@ -25,18 +26,13 @@ use Rattle.choose.proofs.Chosen.{choice-says}
 
 -- ---- looked up or spread, it is the same
 
-drop-next : (r : ℕ) (us : List ℕ) → r < length us → drop r us ≡ getD us r 0 ∷ drop (suc r) us
-drop-next r [] h = absurd (omega arith)
-drop-next zero (u ∷ us) h = refl
-drop-next (suc r) (u ∷ us) h = drop-next r us (omega arith)
-
 -- what is looked up by the kept places of arrivals is spread over the arrivals
 looked-spread : (d : ℕ) (f look : ℕ → ℕ) (us : List ℕ) → look 0 ≡ d → ((p : ℕ) → look (suc p) ≡ f (getD us p 0))
     → (r : ℕ) (ks : List Bool) → r + marked ks ≤ length us → map look (placesAfter r ks) ≡ spread d ks (map f (drop r us))
 unfolding placesAfter spread marked
 looked-spread d f look us none some r [] h = refl
 looked-spread d f look us none some r (true ∷ ks) h =
-    rw (drop-next r us (omega arith)) (ap₂ (λ x t. x ∷ t) (some r) (looked-spread d f look us none some (suc r) ks (omega arith)))
+    rw (drop-cons us r 0 (omega arith)) (ap₂ (λ x t. x ∷ t) (some r) (looked-spread d f look us none some (suc r) ks (omega arith)))
 looked-spread d f look us none some r (false ∷ ks) h = ap₂ (λ x t. x ∷ t) none (looked-spread d f look us none some r ks h)
 
 -- ---- of a reading
