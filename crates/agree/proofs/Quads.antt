@@ -14,6 +14,7 @@ use Rattle.space.specs.Lists.{Below}
 use Rattle.space.proofs.Both.{both}
 use Rattle.space.proofs.Lists.{below-each}
 use Rattle.space.proofs.Xor.{eqb-⊕-zero}
+use Rattle.space.proofs.SumBy.{sumBy-lt}
 use Rattle.octets.specs.Octets.{number, bytes, xorBytes}
 use Rattle.octets.proofs.Numbers.{number-⊕, number-bytes, number-zero, zero-number, length-bytes, bytes-below, bytes-⊕}
 use Rattle.octets.proofs.Xors.{length-xorBytes, xorBytes-below, xorBytes-assoc}
@@ -22,7 +23,6 @@ use Rattle.words.proofs.Littles.{little-⊕, little-zero, zero-little}
 use Rattle.rows.specs.Rows.{named}
 use Rattle.rows.specs.Make.{cut}
 use Rattle.agree.specs.Quads.{quadOf, quadPlus, quadNone}
-use Rattle.rows.proofs.Sums.{named-lt}
 use Rattle.rows.proofs.Pages.{symbols-small}
 use Rattle.rows.proofs.Bits.{symbol-bytes, added, length-added}
 
@@ -99,5 +99,5 @@ quad-sum payload page names p q low high =
     let size : length (added payload s) ≡ l = length-added payload s in
     quad-none (added payload s) (omega (arith, size)) (omega (arith, size))
     ∙ ap (λ (n : ℕ). eqb n 0) (number-⊕ payload (bytes l s) (sym (length-bytes l s)) p (bytes-below l s)
-    ∙ ap (λ (n : ℕ). number payload ⊕ n) (number-bytes l s (named-lt (8 * l) (cut l page) (symbols-small (length page / l) l page q) names)))
+    ∙ ap (λ (n : ℕ). number payload ⊕ n) (number-bytes l s (sumBy-lt (8 * l) (cut l page) (symbols-small (length page / l) l page q) names)))
     ∙ eqb-⊕-zero (number payload) s

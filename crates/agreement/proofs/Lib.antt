@@ -1,2 +1,2 @@
-mod Counting
+pub mod Taken
 pub mod Settled

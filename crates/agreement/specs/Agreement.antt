@@ -1,12 +1,11 @@
--- The agreement of a list with a page, as the code is given them. Document 01, "How a list is read".
+-- The agreement of the rows that are taken, in the order of their arrival numbers, with a page. Document 01, "How a list is read".
 use Prim.Native.Nat.{ℕ}
-use mathlib.Core.Bool.{cond, _&&_}
 use mathlib.Core.List.{List}
-use lib.Dec.{leb}
-use Rattle.rows.specs.Rows.{rowsOf}
-use Rattle.rows.specs.Make.{cut}
-use Rattle.reading.specs.Reading.{agreement}
+use Rattle.space.specs.Lists.{count}
+use Rattle.doubles.specs.Doubles.{pairsIn}
+use Rattle.rows.specs.Make.{bytesAgree}
+use Rattle.lists.specs.Lists.{rowAt}
 
--- "Agreement is the number of list rows, kept or not, that agree with the page", of a page of as many symbols as it has.
-unfoldable pub agreementOf : ℕ → List ℕ → List ℕ → ℕ
-agreementOf l list page = cond (leb 1 l && leb l 32) (agreement l (cut l page) (rowsOf l list)) 0
+-- "Agreement is the number of list rows, kept or not, that agree with the page", of the rows at the arrival numbers in these bytes, 2 each.
+unfoldable pub agreementOf : ℕ → List ℕ → List ℕ → List ℕ → ℕ
+agreementOf l list order page = count (λ a. bytesAgree page (rowAt l a list)) (pairsIn order)

@@ -10,16 +10,15 @@ use mathlib.Core.List.{List, [], _∷_, _++_}
 use lib.Dec.{ltb}
 use lib.ListN.{length, getD, set}
 use lib.Pow.{pow-lt, pow-mono, shl-lt}
-use Rattle.space.specs.Space.{_⊕_, spans, setOf, independent}
+use Rattle.space.specs.Space.{_⊕_, sumBy, spans, setOf, independent}
 use Rattle.space.proofs.Xor.{⊕-self, zero-⊕, ⊕-zero, ⊕-cancel-r, ⊕-four}
 use Rattle.space.proofs.Sets.{setOf-unique}
-use Rattle.rows.specs.Rows.{named}
 use Rattle.basis.specs.Algorithm2.{digits, pass}
 use Rattle.basis.proofs.Digits.{Top, top-⊕}
 use Rattle.basis.proofs.Passes.{pass-move}
 use Rattle.basis.proofs.Stops.{pass-stop, pass-test}
 use Rattle.basis.proofs.Stands.{Stand, key-⊕, key-low, stand-move, stand-test, stand-keep}
-use Rattle.basis.proofs.Tails.{length-digits, named-digits, tail-⊕, tail-low, tail-shl, key-shl}
+use Rattle.basis.proofs.Tails.{length-digits, sumBy-digits, tail-⊕, tail-low, tail-shl, key-shl}
 use Rattle.basis.proofs.Lifted.{lifted, lifted-snoc, lifted-keys, lifted-named}
 
 abbrev pub Rows : ℕ → List ℕ → List ℕ → Type 0
@@ -35,20 +34,20 @@ module _ (t : ℕ) (ks ss : List ℕ) (room : length ks ≤ t) (S : Rows t ks ss
 
   -- and then the digits below name its set
   pub rows-set : independent ks ≡ true → left t ss v < 2 ^ t → digits (length ks) (left t ss v) ≡ setOf ks v
-  rows-set i h = setOf-unique ks i v (digits (length ks) q) (length-digits (length ks) q) (sym (named-digits ks q) ∙ sym v-named)
+  rows-set i h = setOf-unique ks i v (digits (length ks) q) (length-digits (length ks) q) (sym (sumBy-digits ks q) ∙ sym v-named)
     where
       q : ℕ
       q = left t ss v
 
-      moved : v ⊕ named ks q ≡ 0
+      moved : v ⊕ sumBy ks q ≡ 0
       moved =
-          sym (ap₂ (λ (a b : ℕ). a ⊕ named ks b)
+          sym (ap₂ (λ (a b : ℕ). a ⊕ sumBy ks b)
           (key-⊕ t (v * 2 ^ t) q ∙ rw (key-shl t v) (rw (key-low t q h) (⊕-zero v)))
           (tail-⊕ t (v * 2 ^ t) q ∙ rw (tail-shl t v) (rw (tail-low t q h) (zero-⊕ q))))
           ∙ lifted-named t ks room (v * 2 ^ t ⊕ q) (stand-move t (lifted t 0 ks) ss S (v * 2 ^ t))
 
-      v-named : v ≡ named ks q
-      v-named = sym (⊕-cancel-r v (named ks q)) ∙ ap (λ (x : ℕ). x ⊕ named ks q) moved ∙ zero-⊕ (named ks q)
+      v-named : v ≡ sumBy ks q
+      v-named = sym (⊕-cancel-r v (sumBy ks q)) ∙ ap (λ (x : ℕ). x ⊕ sumBy ks q) moved ∙ zero-⊕ (sumBy ks q)
 
   module _ (small : v < 2 ^ length ss) where
     whole : v * 2 ^ t < 2 ^ (t + length ss)

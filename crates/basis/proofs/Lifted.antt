@@ -13,11 +13,10 @@ use lib.ListN.{length, length-append}
 use lib.Pow.{pow-pos, pow-lt}
 use lib.Seq.{append-snoc, getD-append-seam}
 use borrow.Author.Tests.{eqb-true}
-use Rattle.space.specs.Space.{_⊕_, spans}
+use Rattle.space.specs.Space.{_⊕_, sumBy, spans}
 use Rattle.space.proofs.Xor.{⊕-self, zero-⊕, ⊕-zero, ⊕-cancel-r, ⊕-four}
 use Rattle.space.proofs.Sets.{spans-cases}
-use Rattle.rows.specs.Rows.{named}
-use Rattle.rows.proofs.Sums.{named-⊕, named-zero, named-unit}
+use Rattle.space.proofs.SumBy.{sumBy-⊕, sumBy-zero, sumBy-unit}
 use Rattle.basis.proofs.Tails.{tail, tail-⊕, tail-low, tail-shl, key-shl}
 use Rattle.basis.proofs.Stands.{key, key-⊕, key-low}
 
@@ -49,21 +48,21 @@ lifted-keys t j (k ∷ ks) h = ap₂ (λ (x : ℕ) (l : List ℕ). x ∷ l) (lif
 -- ---- the row above is the sum of the kept rows that the digits below name
 
 unfoldable fault : ℕ → List ℕ → ℕ → ℕ
-fault t ks x = key t x ⊕ named ks (tail t x)
+fault t ks x = key t x ⊕ sumBy ks (tail t x)
 
 fault-⊕ : (t : ℕ) (ks : List ℕ) (a b : ℕ) → fault t ks (a ⊕ b) ≡ fault t ks a ⊕ fault t ks b
 unfolding fault
-fault-⊕ t ks a b = rw (key-⊕ t a b) (rw (tail-⊕ t a b) (rw (named-⊕ ks (tail t a) (tail t b)) (⊕-four (key t a) (key t b) (named ks (tail t a)) (named ks (tail t b)))))
+fault-⊕ t ks a b = rw (key-⊕ t a b) (rw (tail-⊕ t a b) (rw (sumBy-⊕ ks (tail t a) (tail t b)) (⊕-four (key t a) (key t b) (sumBy ks (tail t a)) (sumBy ks (tail t b)))))
 
 fault-zero : (t : ℕ) (ks : List ℕ) → fault t ks 0 ≡ 0
 unfolding fault
-fault-zero t ks = rw (key-low t 0 (pow-pos t)) (rw (tail-low t 0 (pow-pos t)) (rw (named-zero ks) (zero-⊕ 0)))
+fault-zero t ks = rw (key-low t 0 (pow-pos t)) (rw (tail-low t 0 (pow-pos t)) (rw (sumBy-zero ks) (zero-⊕ 0)))
 
 fault-lifted : (t : ℕ) (pre : List ℕ) (k : ℕ) (ks : List ℕ) → length pre < t → fault t (pre ++ k ∷ ks) (k * 2 ^ t ⊕ 2 ^ length pre) ≡ 0
 unfolding fault
 fault-lifted t pre k ks h =
     rw (lifted-key t k (length pre) h) (rw (lifted-tail t k (length pre) h)
-    (rw (named-unit (pre ++ k ∷ ks) (length pre) (omega (arith, length-append pre (k ∷ ks)))) (rw (getD-append-seam pre k ks 0) (⊕-self k))))
+    (rw (sumBy-unit (pre ++ k ∷ ks) (length pre) (omega (arith, length-append pre (k ∷ ks)))) (rw (getD-append-seam pre k ks 0) (⊕-self k))))
 
 -- what is zero on each of a list is zero on their sums
 unfoldable Zeros : (ℕ → ℕ) → List ℕ → Type 0
@@ -89,5 +88,5 @@ lifted-zeros t pre (k ∷ ks) h = (
 
 -- so it holds of every sum
 module _ (t : ℕ) (ks : List ℕ) (room : length ks ≤ t) where
-  pub lifted-named : (v : ℕ) → spans (lifted t 0 ks) v ≡ true → key t v ⊕ named ks (tail t v) ≡ 0
+  pub lifted-named : (v : ℕ) → spans (lifted t 0 ks) v ≡ true → key t v ⊕ sumBy ks (tail t v) ≡ 0
   lifted-named v e = unfold fault in zeros-span (fault t ks) (fault-⊕ t ks) (fault-zero t ks) (lifted t 0 ks) (lifted-zeros t [] ks (omega arith)) v e

@@ -9,9 +9,8 @@ use lib.Bits.{xor-mod}
 use lib.Dec.{eqb}
 use lib.ListN.{length}
 use lib.Pow.{shl-shr}
-use Rattle.space.specs.Space.{_⊕_, sumOf}
+use Rattle.space.specs.Space.{_⊕_, sumOf, sumBy}
 use Rattle.space.proofs.Xor.{zero-⊕}
-use Rattle.rows.specs.Rows.{named}
 use Rattle.basis.specs.Algorithm2.{digits}
 use Rattle.basis.proofs.Stands.{key}
 
@@ -22,14 +21,14 @@ unfolding digits
 length-digits zero q = refl
 length-digits (suc n) q = ap suc (length-digits n (q / 2))
 
-pub named-digits : (ks : List ℕ) (q : ℕ) → named ks q ≡ sumOf ks (digits (length ks) q)
-unfolding named sumOf digits
-named-digits [] q = refl
-named-digits (k ∷ ks) q = go (q % 2) (mod-lt q (zero-lt-suc 1)) (named-digits ks (q / 2))
+pub sumBy-digits : (ks : List ℕ) (q : ℕ) → sumBy ks q ≡ sumOf ks (digits (length ks) q)
+unfolding sumBy sumOf digits
+sumBy-digits [] q = refl
+sumBy-digits (k ∷ ks) q = go (q % 2) (mod-lt q (zero-lt-suc 1)) (sumBy-digits ks (q / 2))
   where
-    go : (d : ℕ) → d < 2 → named ks (q / 2) ≡ sumOf ks (digits (length ks) (q / 2))
-        → d * k ⊕ named ks (q / 2) ≡ sumOf (k ∷ ks) (eqb d 1 ∷ digits (length ks) (q / 2))
-    go zero h e = rw (zero-mul k) (zero-⊕ (named ks (q / 2)) ∙ e)
+    go : (d : ℕ) → d < 2 → sumBy ks (q / 2) ≡ sumOf ks (digits (length ks) (q / 2))
+        → d * k ⊕ sumBy ks (q / 2) ≡ sumOf (k ∷ ks) (eqb d 1 ∷ digits (length ks) (q / 2))
+    go zero h e = rw (zero-mul k) (zero-⊕ (sumBy ks (q / 2)) ∙ e)
     go (suc zero) h e = rw (one-mul k) (rw e)
     go (suc (suc d)) h e = absurd (omega arith)
 

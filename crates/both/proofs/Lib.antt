@@ -1,5 +1,5 @@
 pub mod Rests
-pub mod Gathering
 pub mod Following
 pub mod Pairing
+pub mod InPairs
 pub mod Settled

@@ -14,25 +14,25 @@ use borrow.Author.Tests.{leb-true}
 use Rattle.space.proofs.Both.{both}
 use Rattle.octets.specs.Octets.{numbers, flat, over}
 use Rattle.octets.proofs.Runs.{length-flat, numbers-flat, take-over}
-use Rattle.rows.specs.Rows.{shape, symbols, rowBytes, rowCount, rowsOf}
+use Rattle.rows.specs.Rows.{shape, symbols, listRowBytes, rowCount, entriesOf, rowsOf}
 use Rattle.rows.specs.Make.{cut}
 use Rattle.reading.specs.declared.Answer.{Answer}
 use Rattle.reading.specs.declared.Answer.the-variants as answer
 use Rattle.reading.specs.Answer.{answerNumbers}
-use Rattle.reading.specs.Reading.{pickedRows, pageOf}
-use Rattle.reading.specs.Outcome.{Lent, Outcome, Check, passes, refuses, roomy, strayFrom, checks, ended, solved, after, outcome, gave, wholeLength, roomFor}
+use Rattle.reading.specs.Orders.{inListOrder}
+use Rattle.reading.specs.Outcome.{Lent, Outcome, Check, passes, refuses, roomy, strayFrom, checks, ended, told, after, outcomeIn, outcome, gave, wholeLength, roomFor}
 use Rattle.reading.proofs.Checks.{Passed, passed, roomy-fits}
-use Rattle.reading.proofs.Demand1.{EarlyCheck, checks-early}
-use Rattle.reading.proofs.Given.{given-passes, given-read}
+use Rattle.reading.proofs.Writes.{EarlyCheck, checks-early}
+use Rattle.reading.proofs.Given.{outcome-read, given-passes, given-read}
 use Rattle.reading.proofs.Page.{length-pageOf, pageOf-below}
 use Rattle.reading.proofs.Answer.{the-type}
 use Rattle.checks.specs.declared.Gate.the-variants as gates
 use Rattle.checks.specs.Gate.{gate}
-use Rattle.checks.proofs.Gating.{outcome-read}
-use Rattle.reader.specs.Finish.{buffers, outcomeOf}
+use Rattle.reader.specs.Reader.{outcomeOf}
+use Rattle.apart.specs.Apart.{apart}
 use Rattle.both.specs.Both as spec
-use Rattle.both.specs.Both.{Second, lentToo, apart, roomyToo, checksBoth, alone, followed, withSecond}
-use Rattle.both.specs.Parts.{pair, fitsToo, Passing, SecondEnding, secondly}
+use Rattle.both.specs.Both.{Second, lentToo, givenBy, roomyToo, checksBoth, alone, followed, withSecond}
+use Rattle.both.specs.Parts.{pair, fitsToo, Passing}
 
 module _ (n l : ℕ) (list : List ℕ) (lent : Lent) (s : Second) where
   abbrev pub asked : Bool
@@ -42,8 +42,8 @@ module _ (n l : ℕ) (list : List ℕ) (lent : Lent) (s : Second) where
   unfolding checksBoth checks fitsToo gate wholeLength roomyToo roomFor rowCount
   checks-both =
       go (shape n l) (wholeLength l (length list)) (leb (length list) (length (s .list)))
-      (roomFor (n * l) (length list / rowBytes l) (length (s .page)) (length (s .uses)) (length (s .roles)) (length (lent .scratch)))
-      (roomFor (n * l) (length list / rowBytes l) (length (lent .page)) (length (lent .uses)) (length (lent .roles)) (length (lent .scratch)))
+      (roomFor (n * l) (length list / listRowBytes l) (length (s .page)) (length (s .uses)) (length (s .roles)) (length (lent .scratch)))
+      (roomFor (n * l) (length list / listRowBytes l) (length (lent .page)) (length (lent .uses)) (length (lent .roles)) (length (lent .scratch)))
       (strayFrom n l 0 (rowsOf l list)) refl
     where
       go : (sh wh li two one : Bool) (x : Check) → leb (length list) (length (s .list)) ≡ li
@@ -82,12 +82,12 @@ module _ (n l : ℕ) (list : List ℕ) (lent : Lent) (s : Second) where
   room-refused e = let refused : checksBoth n l list lent s ≡ refuses answer.Room = checks-both ∙ rw e in rw refused
 
   -- the room is there: the first reading is the plain one
-  module _ (e : asked ≡ true) (o : Outcome) (told : o ≡ outcome n l list lent) where
-    pub both-by : spec.both n l list lent s ≡ withSecond n l (rowsOf l list) o s
-    unfolding spec.both outcome
+  module _ (e : asked ≡ true) (o : Outcome) (is : o ≡ outcome n l list lent) where
+    pub both-by : spec.both n l list lent s ≡ withSecond n l (entriesOf l list) o s
+    unfolding spec.both outcomeIn
     both-by =
         let same : checksBoth n l list lent s ≡ checks n l list lent = checks-both ∙ rw e in
-        rw same (ap (λ (x : Outcome). withSecond n l (rowsOf l list) x s) (sym told))
+        rw same (ap (λ (x : Outcome). withSecond n l (entriesOf l list) x s) (sym is))
 
     pub both-alone : gave o ≡ false → spec.both n l list lent s ≡ alone o s
     both-alone g = both-by ∙ (unfold withSecond in rw g)
@@ -105,7 +105,7 @@ module _ (n l : ℕ) (list : List ℕ) (lent : Lent) (s : Second) where
     too =
         let whole : wholeLength l (length list) ≡ true = P .rowsWhole in
         go (leb (length list) (length (s .list)))
-        (roomFor (n * l) (length list / rowBytes l) (length (s .page)) (length (s .uses)) (length (s .roles)) (length (lent .scratch))) refl (rw (P .shaped, whole) at e)
+        (roomFor (n * l) (length list / listRowBytes l) (length (s .page)) (length (s .uses)) (length (s .roles)) (length (lent .scratch))) refl (rw (P .shaped, whole) at e)
       where
         go : (li two : Bool) → leb (length list) (length (s .list)) ≡ li → fitsToo (cond (not two) gates.Room gates.Open) (length list) (length (s .list)) ≡ true → (li && two) ≡ true
         go li true q h = rw (sym q ∙ h)
@@ -136,19 +136,19 @@ no-page (answer.Singular r) k lent = refl
 -- ---- a page was given
 
 -- its symbols
-abbrev given : ℕ → ℕ → List ℕ → List ℕ
-given n l list = pageOf n l (pickedRows n (rowsOf l list))
+abbrev pub given : ℕ → ℕ → List ℕ → List ℕ
+given n l list = givenBy n l (entriesOf l list)
 
-module _ (n l : ℕ) (list : List ℕ) (lent : Lent) (r g : ℕ) (lent₁ : Lent) (told : outcomeOf (answer.Page r g) lent₁ ≡ outcome n l list lent) where
+module _ (n l : ℕ) (list : List ℕ) (lent : Lent) (r g : ℕ) (lent₁ : Lent) (is : outcomeOf (answer.Page r g) lent₁ ≡ outcome n l list lent) where
   gave-page : gave (outcome n l list lent) ≡ true
-  gave-page = sym (ap gave told) ∙ (unfold gave answerNumbers in refl)
+  gave-page = sym (ap gave is) ∙ (unfold gave answerNumbers in refl)
 
   pub page-passes : checks n l list lent ≡ passes
-  page-passes = given-passes n l list lent gave-page
+  page-passes = given-passes inListOrder n l list lent gave-page
 
   page-written : lent₁ .page ≡ over (flat l (given n l list)) (lent .page)
-  unfolding solved ended
-  page-written = ap (λ (o : Outcome). o .lent .page) (told ∙ outcome-read n l list lent page-passes ∙ given-read n l list lent gave-page .solves)
+  unfolding told ended
+  page-written = ap (λ (o : Outcome). o .lent .page) (is ∙ outcome-read inListOrder n l list lent page-passes ∙ given-read inListOrder n l list lent gave-page .solves)
 
   -- cut into symbols again
   pub page-cut : 1 ≤ l → (k : ℕ) → k ≡ n * l → cut l (take k (lent₁ .page)) ≡ given n l list
@@ -159,9 +159,7 @@ module _ (n l : ℕ) (list : List ℕ) (lent : Lent) (r g : ℕ) (lent₁ : Lent
       back : symbols n l (flat l (given n l list)) ≡ given n l list
       back = unfold symbols in ap (λ (m : ℕ). numbers l m (flat l (given n l list))) (sym (length-pageOf n l _)) ∙ numbers-flat l (given n l list) (pageOf-below n l _)
 
-  -- and the rows that do not agree with it were read
-  pub both-follow : (s : Second) (cuts : List ℕ) → cuts ≡ given n l list → (first : Answer) → first ≡ answer.Page r g
-      → (e : SecondEnding) → e ≡ secondly first n l (apart l cuts (rowsOf l list)) s (lent₁ .scratch)
-      → pair (e .answers) (buffers (lent₁ .page) (lent₁ .uses) (lent₁ .roles) (e .scratch)) (e .second) ≡ withSecond n l (rowsOf l list) (outcomeOf (answer.Page r g) lent₁) s
-  unfolding withSecond gave answerNumbers followed secondly
-  both-follow s cuts c first q e is = ap (λ (x : SecondEnding). pair (x .answers) (buffers (lent₁ .page) (lent₁ .uses) (lent₁ .roles) (x .scratch)) (x .second)) (is ∙ rw (c, q))
+  -- and the rows that do not agree with it are read
+  pub both-follow : (s : Second) → withSecond n l (entriesOf l list) (outcomeOf (answer.Page r g) lent₁) s ≡ followed n l (apart l (given n l list) (entriesOf l list)) (outcomeOf (answer.Page r g) lent₁) s
+  unfolding withSecond gave answerNumbers
+  both-follow s = refl

@@ -2,15 +2,16 @@
 -- their old order as a list and read it by the same rules."
 use Prim.Native.Nat.{ℕ}
 use mathlib.Core.Bool.{Bool, cond, not, _&&_}
-use mathlib.Core.List.{List, map}
+use mathlib.Core.List.{List}
 use lib.Dec.{leb}
 use lib.ListN.{length}
-use Rattle.space.specs.Lists.{select}
 use Rattle.octets.specs.Octets.{flat, over}
-use Rattle.rows.specs.Rows.{shape, rowBytes, rowCount, rowsOf, agrees}
+use Rattle.rows.specs.Rows.{shape, listRowBytes, rowCount, entriesOf, rowsOf}
 use Rattle.reading.specs.declared.Answer.the-variants as answer
 use Rattle.reading.specs.Reading.{pickedRows, pageOf}
+use Rattle.reading.specs.Orders.{taken, inListOrder}
 use Rattle.reading.specs.Outcome.{Lent, Outcome, Check, refuses, wholeRows, roomy, strayFrom, read, after, gave}
+use Rattle.apart.specs.Apart.{apart}
 use Rattle.both.specs.declared.Both.{Both}
 
 -- What is lent beside the buffers of the first reading: the second list, "its page, uses and roles have lent buffers of their own, ..;
@@ -31,13 +32,12 @@ pub record Pair : Type 0 where
 abbrev pub lentToo : List ℕ → Second → Lent
 lentToo scratch s = record { page = s .page; uses = s .uses; roles = s .roles; scratch = scratch }
 
--- "those rows in their old order": the ones that don't agree with a page.
-unfoldable pub apart : ℕ → List ℕ → List ℕ → List ℕ
-apart l page rows = select (map (λ r. not (agrees l page r)) rows) rows
+-- The page that the rows of entries give, and the entries of those that don't agree with it.
+abbrev pub givenBy : ℕ → ℕ → List ℕ → List ℕ
+givenBy n l entries = pageOf n l (pickedRows n (taken l entries (inListOrder entries)))
 
--- The rows that don't agree with the page that all of them give.
 abbrev pub rest : ℕ → ℕ → List ℕ → List ℕ
-rest n l rows = apart l (pageOf n l (pickedRows n rows)) rows
+rest n l entries = apart l (givenBy n l entries) entries
 
 -- ---- the checks
 
@@ -59,19 +59,20 @@ checksBoth n l list lent s =
 unfoldable pub alone : Outcome → Second → Pair
 alone o s = record { answers = record { first = o .answer; second = answer.Few 0; rows = 0 }; lent = o .lent; second = s }
 
--- Rows copied to the second list and read "by the same rules". "The second list may be empty, which is 5."
+-- Entries copied to the second list and read "by the same rules". "The second list may be empty, which is 5."
 unfoldable pub followed : ℕ → ℕ → List ℕ → Outcome → Second → Pair
-followed n l rows o s =
-    let p = read n l rows (lentToo (o .lent .scratch) s) in
+followed n l entries o s =
+    let p = read n l entries (inListOrder entries) (lentToo (o .lent .scratch) s) in
     record {
-      answers = record { first = o .answer; second = p .answer; rows = length rows };
+      answers = record { first = o .answer; second = p .answer; rows = length entries };
       lent = record { page = o .lent .page; uses = o .lent .uses; roles = o .lent .roles; scratch = p .lent .scratch };
-      second = record { list = over (flat (rowBytes l) rows) (s .list); page = p .lent .page; uses = p .lent .uses; roles = p .lent .roles };
+      second = record { list = over (flat (listRowBytes l) entries) (s .list); page = p .lent .page; uses = p .lent .uses; roles = p .lent .roles };
     }
 
--- The rows read, and after them the rest.
+-- The entries read, and after them the rest.
 unfoldable pub withSecond : ℕ → ℕ → List ℕ → Outcome → Second → Pair
-withSecond n l rows o s = cond (gave o) (followed n l (rest n l rows) o s) (alone o s)
+withSecond n l entries o s = cond (gave o) (followed n l (rest n l entries) o s) (alone o s)
 
 unfoldable pub both : ℕ → ℕ → List ℕ → Lent → Second → Pair
-both n l list lent s = withSecond n l (rowsOf l list) (after (checksBoth n l list lent s) n l (rowsOf l list) lent) s
+both n l list lent s =
+    withSecond n l (entriesOf l list) (after (checksBoth n l list lent s) n l (entriesOf l list) (inListOrder (entriesOf l list)) lent) s

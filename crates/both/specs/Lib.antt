@@ -1,3 +1,4 @@
 pub mod Both
+pub mod Pairs
 pub mod Numbers
 pub mod Parts

@@ -1,19 +1,20 @@
--- The steps of reading both: the room, the rows that go into the second list, and its reading.
-use Prim.Native.Nat.{ℕ, suc, _*_, _≤_}
+-- The steps of reading both: the room, and the second list and its reading.
+use Prim.Native.Nat.{ℕ, _≤_}
 use mathlib.Core.Path.{_≡_}
-use mathlib.Core.Bool.{Bool, true, false, cond}
+use mathlib.Core.Bool.{Bool, true, false}
 use mathlib.Core.List.{List}
 use lib.Dec.{leb}
 use lib.ListN.{length}
-use Rattle.octets.specs.Octets.{flat, over, lay}
-use Rattle.rows.specs.Rows.{rowBytes}
-use Rattle.rows.specs.Make.{bytesAgree}
+use Rattle.octets.specs.Octets.{flat, over}
+use Rattle.rows.specs.Rows.{listRowBytes}
 use Rattle.reading.specs.declared.Answer.{Answer}
+use Rattle.reading.specs.Orders.{inListOrder}
 use Rattle.reading.specs.Outcome.{Lent, passes, checks, read}
 use Rattle.checks.specs.declared.Gate.{Gate}
 use Rattle.checks.specs.declared.Gate.the-variants as gates
 use Rattle.both.specs.declared.Both.{Both}
 use Rattle.both.specs.Both.{Second, Pair, lentToo}
+use Rattle.both.specs.Pairs.{countedToo, pairedToo}
 
 -- The second buffers, and both results, by their parts.
 abbrev pub second : List ℕ → List ℕ → List ℕ → List ℕ → Second
@@ -31,24 +32,7 @@ fitsToo gates.Shape list list₂ = true
 fitsToo gates.List list list₂ = true
 fitsToo gates.Room list list₂ = false
 
--- ---- the second list
-
--- One row more, where it does not agree with the page: how many rows there are, and the list.
-pub record Gathered : Type 0 where
-  pub rows : ℕ
-  pub list : List ℕ
-
-abbrev pub gathers : ℕ → List ℕ → Gathered
-gathers rows list = record { rows = rows; list = list }
-
-unfoldable pub appended : List ℕ → List ℕ → ℕ → List ℕ → Gathered
-appended page row k list = cond (bytesAgree page row) (gathers k list) (gathers (suc k) (lay (k * length row) row list))
-
--- All of them, over the front of the list.
-unfoldable pub gathered : ℕ → List ℕ → List ℕ → Gathered
-gathered l rest list = gathers (length rest) (over (flat (rowBytes l) rest) list)
-
--- ---- its reading
+-- ---- the second list and its reading
 
 -- What was checked before: the list passes with the second buffers too, and the second list has room for it.
 pub record Passing (n l : ℕ) (list : List ℕ) (s : Second) (scratch : List ℕ) : Type 0 where
@@ -64,8 +48,9 @@ pub record SecondEnding : Type 0 where
 abbrev pub secondEnding : Both → Second → List ℕ → SecondEnding
 secondEnding answers s scratch = record { answers = answers; second = s; scratch = scratch }
 
+-- The entries copied to the second list and read, with uses as pairs of bytes.
 unfoldable pub secondly : Answer → ℕ → ℕ → List ℕ → Second → List ℕ → SecondEnding
-secondly first n l rows s scratch =
-    let p = read n l rows (lentToo scratch s) in
-    secondEnding (record { first = first; second = p .answer; rows = length rows })
-    (second (over (flat (rowBytes l) rows) (s .list)) (p .lent .page) (p .lent .uses) (p .lent .roles)) (p .lent .scratch)
+secondly first n l entries s scratch =
+    let p = read n l entries (inListOrder entries) (lentToo scratch (countedToo s)) in
+    secondEnding (record { first = first; second = p .answer; rows = length entries })
+    (pairedToo (s .uses) (second (over (flat (listRowBytes l) entries) (s .list)) (p .lent .page) (p .lent .uses) (p .lent .roles))) (p .lent .scratch)

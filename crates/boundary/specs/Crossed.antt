@@ -6,7 +6,7 @@ use Rattle.laying.specs.declared.Told.{Told}
 use Rattle.reading.specs.declared.Numbers.{Numbers}
 use Rattle.reading.specs.Answer.{answerNumbers}
 use Rattle.reading.specs.Outcome.{Lent}
-use Rattle.pairs.specs.Pairs.{inPairs}
+use Rattle.reader.specs.Pairs.{inPairs}
 
 -- ---- frames
 

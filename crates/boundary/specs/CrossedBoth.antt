@@ -4,8 +4,8 @@ use mathlib.Core.List.{List}
 use Rattle.reading.specs.Answer.{answerNumbers}
 use Rattle.reading.specs.Outcome.{Lent}
 use Rattle.both.specs.Both.{Second}
+use Rattle.both.specs.Pairs.{bothInPairs}
 use Rattle.both.specs.Numbers as both
-use Rattle.versions.specs.Versions.{bothInPairs}
 
 -- The first answer's number, those numbers, and the buffers go across.
 pub record CrossedBoth : Type 0 where

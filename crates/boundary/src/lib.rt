@@ -2,11 +2,11 @@
 // numbers come back through references, and a refusal gives those that have no meaning as 0.
 ghost use mathlib.Core.Path.{_≡_};
 ghost use Prim.Native.Nat.{_*_};
-ghost use Rattle.rows.specs.Rows.{rowBytes};
+ghost use Rattle.rows.specs.Rows.{listRowBytes};
 ghost use Rattle.frame.specs.Reading.{reading};
 ghost use Rattle.frame.specs.Numbers.{frameNumbers};
 ghost use Rattle.laying.specs.Laying as laying;
-ghost use Rattle.reader.specs.Finish.{buffers};
+ghost use Rattle.reader.specs.Reader.{buffers};
 ghost use Rattle.both.specs.Parts.{second};
 ghost use Rattle.boundary.specs.Crossed.{framed, told, answered, crossed};
 ghost use Rattle.boundary.specs.CrossedBoth.{crossing, crossedBoth};
@@ -48,7 +48,7 @@ pub extern "C" fn mekorvat_lay(
     place: &mut usize,
 ) -> u8
     ensures told { λ r. ⌜ told r (now (place .exit)) ≡ laying.toldBy (laying.laid (now (frame .entry)) page n l arrival (now (list .entry))) ⌝ }
-    ensures list { λ r. ⌜ now (list .exit) ≡ laying.listAfter (laying.laid (now (frame .entry)) page n l arrival (now (list .entry))) (rowBytes l * arrival) (laying.frameRow (now (frame .entry))) (now (list .entry)) ⌝ }
+    ensures list { λ r. ⌜ now (list .exit) ≡ laying.listAfter (laying.laid (now (frame .entry)) page n l arrival (now (list .entry))) (listRowBytes l * arrival) (laying.frameRow (now (frame .entry))) (now (list .entry)) ⌝ }
 {
     let told = laying::told_by(laying::lay(frame, page, n, l, Arrival(arrival), list));
     *place = told.place;
@@ -72,7 +72,7 @@ pub extern "C" fn mekorvat_read_list(
     ensures { λ r. ⌜ answered r (now (rank .exit)) (now (place .exit)) (now (agreement .exit)) (buffers (now (page .exit)) (now (uses .exit)) (now (roles .exit)) (now (scratch .exit)))
         ≡ crossed n l (now (list .entry)) (buffers (now (page .entry)) (now (uses .entry)) (now (roles .entry)) (now (scratch .entry))) ⌝ }
 {
-    let answer = pairs::read(n, l, list, page, uses, roles, scratch);
+    let answer = reader::read_pairs(n, l, list, page, uses, roles, scratch);
     let numbers = reading::numbers_of(answer);
     *rank = numbers.rank;
     *place = numbers.place;
@@ -100,7 +100,7 @@ pub extern "C" fn mekorvat_read_both(
         ≡ crossedBoth n l (now (list .entry)) (buffers (now (page .entry)) (now (uses .entry)) (now (roles .entry)) (now (scratch .entry)))
         (second (now (list2 .entry)) (now (page2 .entry)) (now (uses2 .entry)) (now (roles2 .entry))) ⌝ }
 {
-    let answers = versions::read(
+    let answers = both::read_both(
         n,
         l,
         list,

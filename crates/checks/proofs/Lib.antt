@@ -1,3 +1,3 @@
-mod Straying
+pub mod Straying
 pub mod Gating
 pub mod Settled

@@ -9,17 +9,21 @@ use mathlib.Core.List.{List}
 use lib.Dec.{leb}
 use lib.ListN.{length, getD, take, drop, length-drop, take-append-drop, drop-of-length-le}
 use lib.Pow.{high}
-use lib.Seq.{drop-cons, length-take-le}
+use lib.Seq.{drop-cons}
 use Rattle.space.specs.Lists.{Below}
 use Rattle.octets.specs.Octets.{number}
 use Rattle.octets.proofs.Numbers.{number-append, number-lt}
-use Rattle.octets.proofs.Runs.{below-parts, getD-numbers}
+use Rattle.octets.proofs.Runs.{below-parts}
 use Rattle.words.specs.Words.{wordAt}
 use Rattle.words.proofs.Words.{word-inside}
 use Rattle.rows.specs.Rows.{rowBytes, rowCount, rowsOf, constraint}
 use Rattle.rows.proofs.Lists.{length-rowsOf}
+use Rattle.lists.specs.Lists.{rowAt}
+use Rattle.lists.proofs.Rows.{row-length, row-number}
 use Rattle.reading.specs.declared.Answer.the-variants as answer
+use borrow.Author.Tests.{le-leb, lt-leb}
 use Rattle.reading.specs.Outcome.{passes, refuses, strayFrom}
+use Rattle.checks.specs.Gate.{straysIn}
 
 -- the constraint is the number of the first eight bytes
 pub row-constraint : (row : List ℕ) → 8 ≤ length row → Below 256 row → constraint (length row - 8) (number row) ≡ number (take 8 row)
@@ -30,11 +34,6 @@ row-constraint row h b =
     (high (number (take 8 row)) (8 * (length row - 8)) (rw (length-drop 8 row) at (number-lt (drop 8 row) (below-parts 256 8 row b .1)))))
 
 module _ (n l : ℕ) (list : List ℕ) (i : ℕ) where
-  -- a row of the list, in bytes
-  pub row-at : i < rowCount l list → getD (rowsOf l list) i 0 ≡ number (take (rowBytes l) (drop (i * rowBytes l) list))
-  unfolding rowsOf
-  row-at h = getD-numbers (8 + l) (rowCount l list) list i h
-
   module _ (h : i < rowCount l list) where
     next : strayFrom n l i (drop i (rowsOf l list))
         ≡ cond (leb (2 ^ n) (constraint l (getD (rowsOf l list) i 0))) (refuses (answer.Stray (record { 0 = i }))) (strayFrom n l (suc i) (drop (suc i) (rowsOf l list)))
@@ -49,15 +48,22 @@ module _ (n l : ℕ) (list : List ℕ) (i : ℕ) where
   pub stray-never : rowCount l list ≤ i → strayFrom n l i (drop i (rowsOf l list)) ≡ passes
   stray-never h = ap (strayFrom n l i) (drop-of-length-le (rowsOf l list) {i = i} (rw (length-rowsOf l list) h)) ∙ unfold strayFrom in refl
 
+-- a list that is too long was refused before
+pub strays-listed : (n l : ℕ) (list : List ℕ) → rowCount l list ≤ 512 → straysIn n l list ≡ strayFrom n l 0 (rowsOf l list)
+unfolding straysIn
+strays-listed n l list h = rw (le-leb (rowCount l list) 512 h)
+
+pub strays-over : (n l : ℕ) (list : List ℕ) → 512 < rowCount l list → straysIn n l list ≡ passes
+unfolding straysIn
+strays-over n l list h = rw (lt-leb (rowCount l list) 512 h)
+
 -- and that is its first word
 pub constraint-word : (row : List ℕ) → 8 ≤ length row → Below 256 row → wordAt 0 row ≡ constraint (length row - 8) (number row)
 constraint-word row h b = sym (row-constraint row h b ∙ word-inside 0 row h)
 
--- the bytes of row i, as a part of the list of whatever length it is written
-pub part-asked : (n l : ℕ) (list : List ℕ) (i k : ℕ) → k ≡ rowBytes l → i * rowBytes l + rowBytes l ≤ length list → i < rowCount l list
-    → leb (2 ^ n) (constraint (length (take k (drop (i * rowBytes l) list)) - 8) (number (take k (drop (i * rowBytes l) list))))
-    ≡ leb (2 ^ n) (constraint l (getD (rowsOf l list) i 0))
-part-asked n l list i k e room h =
-    let size : length (take (8 + l) (drop (i * (8 + l)) list)) ≡ 8 + l = length-take-le (8 + l) (drop (i * (8 + l)) list) (omega (arith, length-drop (i * (8 + l)) list)) in
-    let small : 8 + l - 8 ≡ l = omega arith in
-    rw e (rw size (rw small (rw (row-at n l list i h))))
+-- what is asked of the bytes of row i is asked of the row
+pub row-asked : (n l : ℕ) (list : List ℕ) (i : ℕ) → Below 256 list → i < 512 → i < rowCount l list
+    → leb (2 ^ n) (constraint (length (rowAt l i list) - 8) (number (rowAt l i list))) ≡ leb (2 ^ n) (constraint l (getD (rowsOf l list) i 0))
+row-asked n l list i b few h =
+    let small : rowBytes l - 8 ≡ l = omega arith in
+    rw (row-length l i list few h, small, row-number l i list few h b)

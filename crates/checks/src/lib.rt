@@ -4,10 +4,11 @@ ghost use Prim.Native.Nat.{_-_, _^_, _≤_};
 ghost use lib.Dec.{leb};
 ghost use lib.ListN.{length};
 ghost use Rattle.octets.specs.Octets.{number};
-ghost use Rattle.rows.specs.Rows.{rowsOf, constraint};
-ghost use Rattle.reading.specs.Outcome.{wholeLength, roomFor, strayFrom};
-ghost use Rattle.checks.specs.Gate.{gate, strayCheck};
+ghost use Rattle.rows.specs.Rows.{constraint};
+ghost use Rattle.reading.specs.Outcome.{wholeLength, roomFor};
+ghost use Rattle.checks.specs.Gate.{gate, strayCheck, straysIn, checkOf, allChecks};
 use places::Arrival;
+use reading::Answer;
 
 // What the checks 1 to 3 say.
 pub enum Gate {
@@ -24,11 +25,10 @@ pub const SCRATCH: usize = 32768;
 pub fn whole(l: u8, list: usize) -> bool
     ensures { λ r. ⌜ r ≡ wholeLength l list ⌝ }
 {
-    let w = 8 + l as usize;
-    if list % w != 0 {
+    if list % rows::stride(l) != 0 {
         return false;
     }
-    list / w <= places::MOST_ROWS
+    lists::count(list, l) <= places::MOST_ROWS
 }
 
 // Whether the page room, uses, roles and scratch of these lengths are long enough.
@@ -64,7 +64,7 @@ pub fn check(
     if !whole(l, list) {
         return Gate::List;
     }
-    let m = list / (8 + l as usize);
+    let m = lists::count(list, l);
     if !room_fits(n as usize * l as usize, m, page, uses, roles, scratch) {
         return Gate::Room;
     }
@@ -85,19 +85,51 @@ fn row_strays(row: &[u8], n: u8) -> bool
     rows::strays(n, words::word(row, 0))
 }
 
+// Of a list of at most 512 rows: a longer one is refused before.
 pub fn first_stray(n: u8, l: u8, list: &[u8]) -> Stray
-    ensures { λ r. ⌜ strayCheck r ≡ strayFrom n l 0 (rowsOf l (now (list .entry))) ⌝ }
+    ensures { λ r. ⌜ strayCheck r ≡ straysIn n l (now (list .entry)) ⌝ }
 {
-    let w = 8 + l as usize;
-    let m = list.len() / w;
-    let mut i: usize = 0;
-    while i < m {
-        let at = i * w;
-        let end = at + w;
-        if row_strays(&list[at..end], n) {
-            return Stray::At(Arrival(i));
+    let m = lists::count(list.len(), l);
+    if places::MOST_ROWS < m {
+        return Stray::Nowhere;
+    }
+    for arrival in 0..m {
+        let arrival = Arrival(arrival);
+        if row_strays(lists::row(list, l, arrival), n) {
+            return Stray::At(arrival);
         }
-        i += 1;
     }
     Stray::Nowhere
+}
+
+// ---- all four
+
+// What the checks say: the list passes, or the first answer that applies.
+pub enum Checked {
+    Refused(Answer),
+    Passed,
+}
+
+// What the checks 1 to 4 say of a list, for buffers of these lengths.
+pub fn all(
+    n: u8,
+    l: u8,
+    list: &[u8],
+    page: usize,
+    uses: usize,
+    roles: usize,
+    scratch: usize,
+) -> Checked
+    ensures { λ r. ⌜ checkOf r ≡ allChecks n l (now (list .entry)) page uses roles scratch ⌝ }
+{
+    match check(n, l, list.len(), page, uses, roles, scratch) {
+        Gate::Shape => return Checked::Refused(Answer::Shape),
+        Gate::List => return Checked::Refused(Answer::List),
+        Gate::Room => return Checked::Refused(Answer::Room),
+        Gate::Open => {}
+    }
+    match first_stray(n, l, list) {
+        Stray::At(arrival) => Checked::Refused(Answer::Stray(arrival)),
+        Stray::Nowhere => Checked::Passed,
+    }
 }

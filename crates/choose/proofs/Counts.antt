@@ -1,18 +1,13 @@
--- Counting along a list, and the loop that does it.
+-- Counts by two tests, one against the other.
 -- Assumes nothing.
-use mathlib.Core.Path.{_≡_, refl, sym, ap, _∙_}
-use Prim.Native.Nat.{ℕ, suc, _+_, _≤_, _<_}
-use native.Mathlib.Numerals.{add-one}
+use mathlib.Core.Path.{_≡_, refl}
+use Prim.Native.Nat.{ℕ, suc, _≤_}
 use native.Mathlib.Omega.{arith}
 use mathlib.Core.Bool.{Bool, true, false, cond, false≢true}
 use mathlib.Core.List.{List, [], _∷_}
 use lib.Dec.{leb}
-use lib.ListN.{length, take, getD}
-use lib.Seq.{take-suc, take-all}
 use borrow.Author.Tests.{lt-leb}
-use mir.Val.{boolByte}
 use Rattle.space.specs.Lists.{count, Below}
-use Rattle.space.proofs.Lists.{count-snoc}
 
 -- what passes one test passes another
 pub count-mono : (p q : ℕ → Bool) → ((x : ℕ) → p x ≡ true → q x ≡ true) → (xs : List ℕ) → count p xs ≤ count q xs
@@ -32,35 +27,3 @@ pub count-beyond : (t : ℕ) (xs : List ℕ) → Below t xs → count (leb t) xs
 unfolding count
 count-beyond t [] b = refl
 count-beyond t (x ∷ xs) b = rw (lt-leb t x (b .0)) (count-beyond t xs (b .1))
-
-count-next : (p : ℕ → Bool) (xs : List ℕ) (i : ℕ) → i < length xs → count p (take (i + 1) xs) ≡ count p (take i xs) + boolByte (p (getD xs i 0))
-count-next p xs i h = rw (add-one i, take-suc xs i 0 h, count-snoc p (take i xs) (getD xs i 0)) (go (p (getD xs i 0)))
-  where
-    go : (b : Bool) → cond b (suc (count p (take i xs))) (count p (take i xs)) ≡ count p (take i xs) + boolByte b
-    go true = omega arith
-    go false = omega arith
-
--- A loop that counts along a list, at turn i.
-pub record Counting (p : ℕ → Bool) (xs : List ℕ) (sum i : ℕ) : Type 0 where
-  pub within : i ≤ length xs
-  pub most : sum ≤ i
-  pub holds : sum ≡ count p (take i xs)
-
-pub counting-start : (p : ℕ → Bool) (xs : List ℕ) → Counting p xs 0 0
-unfolding count
-counting-start p xs = record { within = omega arith; most = omega arith; holds = refl }
-
-module _ (p : ℕ → Bool) (xs : List ℕ) (sum i : ℕ) (counting : Counting p xs sum i) where
-  pub counting-more : i < length xs → (b : Bool) → b ≡ p (getD xs i 0) → Counting p xs (sum + boolByte b) (i + 1)
-  counting-more h b e = record {
-    within = omega arith;
-    most = omega (arith, counting .most, at-most b);
-    holds = rw (counting .holds, e) (sym (count-next p xs i h));
-  }
-    where
-      at-most : (b : Bool) → boolByte b ≤ 1
-      at-most true = omega arith
-      at-most false = omega arith
-
-  pub counting-end : length xs ≤ i → sum ≡ count p xs
-  counting-end h = counting .holds ∙ ap (count p) (take-all i xs h)

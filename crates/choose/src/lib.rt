@@ -1,16 +1,11 @@
-// Chooses rows by their uses: which kept rows are picked, whether there is a tie, and the marks by arrival number.
+// Chooses rows by their uses: which kept rows are picked, or whether there is a tie.
 ghost use mathlib.Core.Path.{_≡_};
 ghost use mathlib.Core.Bool.{cond};
-ghost use Prim.Native.Nat.{_+_, _*_, _/_, _≤_, _<_};
+ghost use Prim.Native.Nat.{_+_, _*_, _<_};
 ghost use lib.Dec.{leb};
-ghost use lib.ListN.{length, set};
 ghost use Rattle.space.specs.Lists.{count};
-ghost use Rattle.octets.specs.Octets.{over};
 ghost use Rattle.doubles.specs.Doubles.{pairsIn};
 ghost use Rattle.choose.specs.Pick as pick;
-ghost use Rattle.choose.specs.Mark as marks;
-use places::Arrival;
-use places::Lookup;
 
 // What the uses choose: too few rows, answer 5 of a reading; a tie, its answer 6; or the rows with this many uses or more.
 pub enum Choice {
@@ -20,18 +15,7 @@ pub enum Choice {
 }
 
 // More uses than two bytes can count: the rows with so many are none.
-const NONE_PICKED: usize = 65536;
-
-// "65535 for another", a row that is not kept.
-const NOT_KEPT: u16 = 65535;
-
-// What is marked at one arrival number.
-struct Marked {
-    uses: u16,
-    role: u8,
-}
-
-// ---- the pick
+pub const NONE_PICKED: usize = 65536;
 
 // How many rows have `least` uses or more.
 fn reached(counts: &[u8], least: usize) -> usize
@@ -84,82 +68,4 @@ pub fn pick(n: u8, counts: &[u8]) -> Choice
     } else {
         Choice::Tie
     }
-}
-
-// ---- the marks
-
-// The fewest uses of a row that is marked as picked: "no 2 under 5 and 6".
-fn least_marked(choice: Choice) -> usize
-    ensures { λ r. ⌜ r ≡ marks.leastMarked choice ⌝ }
-{
-    match choice {
-        Choice::Few => NONE_PICKED,
-        Choice::Tie => NONE_PICKED,
-        Choice::Picked(least) => least,
-    }
-}
-
-fn role(least: usize, uses: u16) -> u8
-    ensures { λ r. ⌜ r ≡ marks.role least uses ⌝ }
-{
-    if least <= (uses as usize) { 2 } else { 1 }
-}
-
-// What is marked at an arrival number that was given this.
-fn mark_of(given: Lookup, counts: &[u8], least: usize) -> Marked
-    ensures { λ r. ⌜ r ≡ marks.markOf least (now (counts .entry)) given ⌝ }
-{
-    match given {
-        Lookup::Place(place) => {
-            let uses = places::uses(counts, place);
-            Marked {
-                uses,
-                role: role(least, uses),
-            }
-        }
-        Lookup::Nothing => Marked {
-            uses: NOT_KEPT,
-            role: 0,
-        },
-    }
-}
-
-// Writes the marks of one row at its arrival number.
-fn put(uses: &mut [u16], roles: &mut [u8], arrival: Arrival, marked: Marked)
-    requires { ⌜ (arrival .0 < length (now uses)) × (arrival .0 < length (now roles)) ⌝ }
-    ensures uses { λ _. ⌜ now (uses .exit) ≡ set (now (uses .entry)) (arrival .0) (marked .uses) ⌝ }
-    ensures roles { λ _. ⌜ now (roles .exit) ≡ set (now (roles .entry)) (arrival .0) (marked .role) ⌝ }
-{
-    let at = arrival.0;
-    uses[at] = marked.uses;
-    roles[at] = marked.role;
-}
-
-// The marks of all rows, each by the kept place that its arrival was given.
-fn mark_all(places: &[u8], counts: &[u8], least: usize, uses: &mut [u16], roles: &mut [u8])
-    requires { ⌜ (length (now places) / 2 ≤ length (now uses)) × (length (now places) / 2 ≤ length (now roles)) ⌝ }
-    ensures uses { λ _. ⌜ now (uses .exit) ≡ over (marks.usesMarked (now (places .entry)) (now (counts .entry))) (now (uses .entry)) ⌝ }
-    ensures roles { λ _. ⌜ now (roles .exit) ≡ over (marks.rolesMarked least (now (places .entry)) (now (counts .entry))) (now (roles .entry)) ⌝ }
-{
-    for arrival in 0..places.len() / 2 {
-        let arrival = Arrival(arrival);
-        let marked = mark_of(places::given(places, arrival), counts, least);
-        put(uses, roles, arrival, marked);
-    }
-}
-
-// Marks the uses and the role of each row at its arrival number, from the kept places that arrivals were given and the bytes that count
-// uses, 2 for each. Writes nothing where a buffer is too short.
-pub fn mark(places: &[u8], counts: &[u8], choice: Choice, uses: &mut [u16], roles: &mut [u8])
-    ensures uses { λ _. ⌜ now (uses .exit) ≡ marks.usesAfter (now (places .entry)) (now (counts .entry)) (now (uses .entry)) (now (roles .entry)) ⌝ }
-    ensures roles { λ _. ⌜ now (roles .exit) ≡ marks.rolesAfter choice (now (places .entry)) (now (counts .entry)) (now (uses .entry)) (now (roles .entry)) ⌝ }
-{
-    let rows = places.len() / 2;
-    if uses.len() < rows {
-        return;
-    }
-    if roles.len() < rows {
-        return;
-    }
-    mark_all(places, counts, least_marked(choice), uses, roles);
 }

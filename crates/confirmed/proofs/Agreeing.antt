@@ -1,49 +1,22 @@
--- What rows that agree with a page say of their sums: a sum of them agrees, and a sum with the one misread row among them does not.
+-- Rows agree with a page or were misread; a sum with the one misread row among them does not agree, since the sum of the others does.
 -- Assumes nothing.
-use mathlib.Core.Path.{_≡_, refl, sym, ap, ap₂, _∙_}
+use mathlib.Core.Path.{_≡_, refl, sym, ap, _∙_}
 use Prim.Native.Nat.{ℕ, zero, suc, _≤_, _<_}
 use native.Mathlib.Omega.{arith}
 use mathlib.Core.Bool.{Bool, true, false, cond, not, true≢false, false≢true}
 use mathlib.Core.List.{List, [], _∷_}
 use lib.ListN.{length, getD}
-use borrow.Author.Tests.{eqb-true, eq-eqb, not-true, not-false}
+use borrow.Author.Tests.{not-true, not-false}
 use Rattle.space.specs.Lists.{count, All}
-use Rattle.space.specs.Space.{_⊕_, sumOf, spans, setOf}
+use Rattle.space.specs.Space.{_⊕_, sumOf}
 use Rattle.space.proofs.Lists.{all-mono}
 use Rattle.space.proofs.Xor.{⊕-comm, ⊕-cancel-r}
-use Rattle.space.proofs.Sets.{setOf-sum}
-use Rattle.space.proofs.Linear.{map-zero}
-use Rattle.rows.specs.Rows.{constraint, payload, named, agrees}
-use Rattle.rows.proofs.Sums.{constraint-⊕, payload-⊕, constraint-zero, named-⊕, named-zero}
+use Rattle.rows.specs.Rows.{agrees}
+use Rattle.same_page.proofs.Agreeing.{agrees-⊕, agrees-sum}
 use Rattle.confirmed.specs.Confirmed.{misread}
 use Rattle.confirmed.proofs.Counts.{none-pass, count-at}
 
 module _ (l : ℕ) (page : List ℕ) where
-  agrees-zero : agrees l page 0 ≡ true
-  unfolding agrees
-  agrees-zero = rw (map-zero (payload l) (payload-⊕ l), constraint-zero l, named-zero page)
-
-  agrees-⊕ : (a b : ℕ) → agrees l page a ≡ true → agrees l page b ≡ true → agrees l page (a ⊕ b) ≡ true
-  unfolding agrees
-  agrees-⊕ a b p q =
-      eq-eqb (payload l (a ⊕ b)) (named page (constraint l (a ⊕ b))) (payload-⊕ l a b
-      ∙ ap₂ (λ x y. x ⊕ y) (eqb-true (payload l a) (named page (constraint l a)) p) (eqb-true (payload l b) (named page (constraint l b)) q)
-      ∙ sym (ap (named page) (constraint-⊕ l a b) ∙ named-⊕ page (constraint l a) (constraint l b)))
-
-  -- a sum of rows that agree agrees
-  agrees-sum : (rows : List ℕ) → All (agrees l page) rows → (set : List Bool) → agrees l page (sumOf rows set) ≡ true
-  unfolding sumOf
-  agrees-sum [] a set = agrees-zero
-  agrees-sum (r ∷ rows) a [] = agrees-zero
-  agrees-sum (r ∷ rows) a (true ∷ set) = agrees-⊕ r (sumOf rows set) (a .0) (agrees-sum rows (a .1) set)
-  agrees-sum (r ∷ rows) a (false ∷ set) = agrees-sum rows (a .1) set
-
-  -- and so does what they span
-  pub agrees-span : (rows : List ℕ) → All (agrees l page) rows → (r : ℕ) → spans rows r ≡ true → agrees l page r ≡ true
-  agrees-span rows a r h = rw (setOf-sum rows r h) at (agrees-sum rows a (setOf rows r))
-
-  -- ---- misread rows
-
   pub misread-is : (r : ℕ) → agrees l page r ≡ false → misread l page r ≡ true
   unfolding misread
   misread-is r e = rw e
@@ -64,7 +37,7 @@ module _ (l : ℕ) (page : List ℕ) where
   bad-left a b p q = go (agrees l page (a ⊕ b)) refl
     where
       go : (c : Bool) → agrees l page (a ⊕ b) ≡ c → agrees l page (a ⊕ b) ≡ false
-      go true e = absurd (true≢false (sym (rw (⊕-cancel-r a b) at (agrees-⊕ (a ⊕ b) b e q)) ∙ p))
+      go true e = absurd (true≢false (sym (rw (⊕-cancel-r a b) at (agrees-⊕ l page (a ⊕ b) b e q)) ∙ p))
       go false e = e
 
   bad-right : (a b : ℕ) → agrees l page a ≡ true → agrees l page b ≡ false → agrees l page (a ⊕ b) ≡ false
@@ -77,7 +50,7 @@ module _ (l : ℕ) (page : List ℕ) where
   sum-misread [] set j h e b c = absurd (omega arith)
   sum-misread (k ∷ ks) [] j h e b c = absurd (false≢true e)
   sum-misread (k ∷ ks) (false ∷ set) zero h e b c = absurd (false≢true e)
-  sum-misread (k ∷ ks) (true ∷ set) zero h e b c = bad-left k (sumOf ks set) b (agrees-sum ks (none-misread ks none) set)
+  sum-misread (k ∷ ks) (true ∷ set) zero h e b c = bad-left k (sumOf ks set) b (agrees-sum l page ks (none-misread ks none) set)
     where
       none : count (misread l page) ks ≡ 0
       none = omega (arith, rw (misread-is k b) at c)

@@ -15,7 +15,7 @@ use Rattle.reading.proofs.Kept.{kept-span}
 use Rattle.reading.proofs.Pick.{all-picked, no-tie, picked-inside, picked-size}
 use Rattle.reading.proofs.Page.{page-agrees}
 use Rattle.confirmed.specs.Confirmed.{given}
-use Rattle.confirmed.proofs.Agreeing.{agrees-span}
+use Rattle.same_page.proofs.Agreeing.{agrees-span}
 
 module _ (n l : ℕ) (rows : List ℕ) (inside : Below (2 ^ n) (map (constraint l) rows)) (full : rank rows ≡ n) (sound : singular n l rows ≡ false) where
   picked-free : independent (map (constraint l) (pickedRows n rows)) ≡ true

@@ -10,16 +10,18 @@ use lib.ListN.{length, take}
 use Rattle.space.specs.Lists.{Below}
 use Rattle.octets.specs.Octets.{numbers, flat}
 use Rattle.octets.proofs.Runs.{length-flat, flat-below, numbers-flat, take-over}
-use Rattle.rows.specs.Rows.{symbols, rowCount, rowsOf}
+use Rattle.rows.specs.Rows.{symbols, rowCount, entriesOf, rowsOf}
 use Rattle.rows.proofs.Shape.{shape-range}
-use Rattle.rows.proofs.Lists.{length-rowsOf}
 use Rattle.rows.proofs.Pages.{length-symbols, symbols-below, flat-symbols}
-use Rattle.reading.specs.Reading.{kept, rank}
-use Rattle.reading.specs.Outcome.{Lent, usesMarks, rolesMarks, telling, ended, solved, after, outcome, gave}
-use Rattle.reading.proofs.Kept.{length-kept}
-use Rattle.reading.proofs.Spread.{length-spread, length-marks}
+use Rattle.reading.specs.Reading.{rank}
+use Rattle.reading.specs.Orders.{taken, inListOrder}
+use Rattle.reading.specs.Marks.{usesMarks, rolesMarks, telling}
+use Rattle.reading.specs.Verdict.{answered}
+use Rattle.reading.specs.Outcome.{Lent, ended, told, outcome, gave}
+use Rattle.reading.proofs.Listed.{plain-taken, plain-uses, plain-roles}
+use Rattle.reading.proofs.Spread.{length-marks, length-roles}
 use Rattle.reading.proofs.Checks.{Passed, passed, inside}
-use Rattle.reading.proofs.Given.{given-passes, given-read}
+use Rattle.reading.proofs.Given.{outcome-read, given-passes, given-read}
 use Rattle.confirmed.specs.Confirmed.{confirmed, confirmedMarks, confirms, IsPage, GivesPage, given, Certain, CertainList}
 use Rattle.confirmed.proofs.More.{more-confirms}
 use Rattle.confirmed.proofs.Marks.{marks-confirmed}
@@ -46,32 +48,37 @@ module _ (n l : ℕ) (list : List ℕ) (lent : Lent) (e : gave (outcome n l list
   abbrev rows : List ℕ
   rows = rowsOf l list
 
+  abbrev entries : List ℕ
+  entries = entriesOf l list
+
+  abbrev order : List ℕ
+  order = inListOrder entries
+
   P : Passed n l list lent
-  P = passed n l list lent (given-passes n l list lent e)
+  P = passed n l list lent (given-passes inListOrder n l list lent e)
 
   pub list-gives : GivesPage n l rows
-  list-gives = gives-exactly n l rows lent .0 (unfold outcome after in rw (given-passes n l list lent e) at e)
+  list-gives = rw (plain-taken l list) at (gives-exactly n l entries order lent .0 (ap gave (sym (outcome-read inListOrder n l list lent (given-passes inListOrder n l list lent e))) ∙ e))
 
-  list-solved : outcome n l list lent ≡ solved n l rows lent (given n l rows)
-  unfolding outcome after
-  list-solved = rw (given-passes n l list lent e) (given-read n l list lent e .solves)
+  list-solved : outcome n l list lent ≡ told (answered (given n l rows)) n l entries order lent
+  list-solved =
+      outcome-read inListOrder n l list lent (given-passes inListOrder n l list lent e) ∙ given-read inListOrder n l list lent e .solves
+      ∙ ap (λ (rs : List ℕ). told (answered (given n l rs)) n l entries order lent) (plain-taken l list)
 
   -- its page
   pub list-page : take (n * l) (outcome n l list lent .lent .page) ≡ flat l (given n l rows)
   list-page =
       ap (λ o. take (n * l) (o .lent .page)) list-solved
-      ∙ unfold solved ended in take-over (flat l (given n l rows)) (lent .page) (n * l) (page-bytes n l (given n l rows) (given-page n l rows))
+      ∙ unfold told ended in take-over (flat l (given n l rows)) (lent .page) (n * l) (page-bytes n l (given n l rows) (given-page n l rows))
 
   -- and that it is confirmed
   pub list-confirms : confirms (rowCount l list) (outcome n l list lent) ≡ confirmed n rows
   unfolding confirms
   list-confirms =
       ap (λ o. confirmedMarks (take (rowCount l list) (o .lent .roles)) (take (rowCount l list) (o .lent .uses))) list-solved
-      ∙ unfold solved ended in ap₂ confirmedMarks (take-over (rolesMarks telling n rows) (lent .roles) (rowCount l list) roles) (take-over (usesMarks rows) (lent .uses) (rowCount l list) (length-marks l list))
-      ∙ marks-confirmed n rows
-    where
-      roles : length (rolesMarks telling n rows) ≡ rowCount l list
-      roles = unfold rolesMarks in length-spread 0 (kept rows) _ ∙ length-kept rows ∙ length-rowsOf l list
+      ∙ unfold told ended in ap₂ confirmedMarks (take-over (rolesMarks telling n l entries order) (lent .roles) (rowCount l list) (length-roles telling n l list order))
+      (take-over (usesMarks l entries order) (lent .uses) (rowCount l list) (length-marks l list order))
+      ∙ rw (plain-uses l list, plain-roles l list telling n) (marks-confirmed n rows)
 
   -- ---- the laws
 

@@ -12,7 +12,8 @@ use Rattle.space.specs.Lists.{select, marked, count}
 use Rattle.space.specs.Space.{spans}
 use Rattle.space.proofs.Lists.{length-select}
 use Rattle.reading.specs.Reading.{keptAfter, kept, keptRows, rank, uses, picked}
-use Rattle.reading.specs.Outcome.{spread, usesMarks, rolesMarks, telling}
+use Rattle.reading.specs.Marks.{telling}
+use Rattle.reading.specs.Listed.{spread, listedUses, listedRoles}
 use Rattle.reading.proofs.Kept.{kept-append, length-kept}
 use Rattle.reading.proofs.Pick.{length-uses, length-picked}
 use Rattle.confirmed.specs.Confirmed.{confirmed, confirmedMarks, Unused}
@@ -37,8 +38,8 @@ unfolding rank keptRows
 marked-kept rows = sym (length-select (kept rows) rows (length-kept rows))
 
 -- no arrival has the role 2 and the use 0 exactly when the page is confirmed
-pub marks-confirmed : (n : ℕ) (rows : List ℕ) → confirmedMarks (rolesMarks telling n rows) (usesMarks rows) ≡ confirmed n rows
-unfolding rolesMarks usesMarks confirmed
+pub marks-confirmed : (n : ℕ) (rows : List ℕ) → confirmedMarks (listedRoles telling n rows) (listedUses rows) ≡ confirmed n rows
+unfolding listedRoles listedUses confirmed
 marks-confirmed n rows = spread-confirmed (kept rows) (picked n rows) (uses rows) (length-picked n rows ∙ sym (marked-kept rows)) (length-uses rows ∙ sym (marked-kept rows))
 
 -- ---- not confirmed
@@ -74,7 +75,7 @@ zero-any (v ∷ vs) (suc j) e = zero-any vs j e
 
 module _ (before : List ℕ) (r : ℕ) (after : List ℕ) (u : Unused before r after) where
   at : (b : Bool) (cs : List Bool) → kept (before ++ r ∷ after) ≡ kept before ++ b ∷ cs → cond b (getD (uses (before ++ r ∷ after)) (rank before) 65535) 65535 ≡ 0
-  unfolding usesMarks
+  unfolding listedUses
   at b cs k =
       ap (λ (m : ℕ). cond b (getD (uses (before ++ r ∷ after)) m 65535) 65535) (sym (marked-kept before))
       ∙ sym (spread-seam 65535 (kept before) b cs (uses (before ++ r ∷ after)))

@@ -19,8 +19,9 @@ use Rattle.space.proofs.Xor.{⊕-self, ⊕-zero, ⊕-cancel}
 use Rattle.rows.specs.Rows.{constraint, agrees}
 use Rattle.rows.proofs.Sums.{constraint-⊕}
 use Rattle.reading.specs.Reading.{rank, few, pickedRows}
-use Rattle.reading.specs.Outcome.{usesMarks, rolesMarks, telling}
-use Rattle.reading.proofs.Spread.{marks-rows}
+use Rattle.reading.specs.Marks.{telling}
+use Rattle.reading.specs.Listed.{listedUses, listedRoles}
+use Rattle.reading.proofs.Spread.{listed-rows}
 use Rattle.reading.proofs.Page.{length-pageOf, pageOf-below}
 use Rattle.confirmed.specs.Confirmed.{confirmed, IsPage, GivesPage, given, Certain, Unused}
 use Rattle.confirmed.proofs.Masks.{all-split}
@@ -73,11 +74,11 @@ module _ (n l : ℕ) (rows : List ℕ) (wide : 1 ≤ l) (inside : Below (2 ^ n) 
   denied-at : confirmed n rows ≡ false → Certain n l rows → ⊥
   denied-at c = go (take (i .0) rows) (getD rows (i .0) 0) (drop (suc (i .0)) rows) (split-at rows (i .0) 0 place) (length-take-le (i .0) rows (omega (arith, place)))
     where
-      i : (i : ℕ) × (i < length (usesMarks rows)) × (getD (usesMarks rows) i 65535 ≡ 0)
-      i = alone-at (rolesMarks telling n rows) (usesMarks rows) (marks-confirmed n rows ∙ c)
+      i : (i : ℕ) × (i < length (listedUses rows)) × (getD (listedUses rows) i 65535 ≡ 0)
+      i = alone-at (listedRoles telling n rows) (listedUses rows) (marks-confirmed n rows ∙ c)
 
       place : i .0 < length rows
-      place = omega (arith, i .1, marks-rows rows)
+      place = omega (arith, i .1, listed-rows rows)
 
       at : (before : List ℕ) (r : ℕ) (after : List ℕ) → Unused before r after → (rs : List ℕ) → rs ≡ before ++ r ∷ after → Below (2 ^ n) (map (constraint l) rs)
           → GivesPage n l rs → rank rs ≡ n → Certain n l rs → ⊥
@@ -85,7 +86,7 @@ module _ (n l : ℕ) (rows : List ℕ) (wide : 1 ≤ l) (inside : Below (2 ^ n) 
 
       go : (before : List ℕ) (r : ℕ) (after : List ℕ) → rows ≡ before ++ r ∷ after → length before ≡ i .0 → Certain n l rows → ⊥
       go before r after e size =
-          let u : Unused before r after = ap₂ (λ (rs : List ℕ) (m : ℕ). getD (usesMarks rs) m 65535) (sym e) size ∙ i .2 in
+          let u : Unused before r after = ap₂ (λ (rs : List ℕ) (m : ℕ). getD (listedUses rs) m 65535) (sym e) size ∙ i .2 in
           at before r after u rows e inside g (unconfirmed-full n l rows g c)
 
   pub confirmed-means : (confirmed n rows ≡ true) ↔ Certain n l rows

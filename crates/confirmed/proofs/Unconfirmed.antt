@@ -1,24 +1,26 @@
 -- Where the rank is n and a kept row has no use, nothing tells whether it was misread: with any other payload in it the outcome is the same but
 -- for the page, and the page is another one.
 -- Assumes nothing.
-use mathlib.Core.Path.{_≡_, sym, ap, ap₂, _∙_}
+use mathlib.Core.Path.{_≡_, refl, sym, ap, ap₂, _∙_}
 use Prim.Native.Nat.{ℕ, _^_}
-use native.Mathlib.Omega.{arith}
 use mathlib.Core.Bool.{true}
 use mathlib.Core.List.{List, _∷_, _++_, map}
 use mathlib.Core.Logic.{_↔_}
 use lib.ListN.{length, length-append}
-use borrow.Author.Tests.{le-ltb}
 use Rattle.space.specs.Lists.{All, Below}
-use Rattle.space.proofs.Lists.{marked-le}
-use Rattle.octets.specs.Octets.{flat}
-use Rattle.rows.specs.Rows.{constraint, agrees, made}
+use Rattle.octets.specs.Octets.{flat, over}
+use Rattle.rows.specs.Rows.{vector, constraint, agrees, made}
 use Rattle.rows.proofs.Pages.{agrees-made}
 use Rattle.reading.specs.declared.Answer.the-variants as answer
 use Rattle.reading.specs.Answer.{answerNumbers}
-use Rattle.reading.specs.Reading.{rank, few, picked}
-use Rattle.reading.specs.Outcome.{Lent, usesMarks, rolesMarks, telling, ended, solved, read, gave}
-use Rattle.reading.proofs.Pick.{tie-never, length-picked, not-few, no-tie}
+use Rattle.reading.specs.Reading.{rank}
+use Rattle.reading.specs.Orders.{taken, inListOrder}
+use Rattle.reading.specs.Marks.{telling}
+use Rattle.reading.specs.Listed.{listedUses, listedRoles}
+use Rattle.reading.specs.Verdict.{answered, verdict}
+use Rattle.reading.specs.Outcome.{Lent, Outcome, zeros, ended, told, read, gave}
+use Rattle.reading.proofs.Pick.{not-few, no-tie}
+use Rattle.reading.proofs.Listed.{taken-all, uses-all, roles-all}
 use Rattle.reading.proofs.Given.{Given, page-given}
 use Rattle.confirmed.specs.Confirmed.{GivesPage, given, Unused, Untold}
 use Rattle.confirmed.proofs.Masks.{all-split}
@@ -28,26 +30,41 @@ use Rattle.confirmed.proofs.Swapped.{swapped}
 
 -- ---- a page is given
 
--- exactly where the outcome gave one
-pub gives-exactly : (n l : ℕ) (rows : List ℕ) (lent : Lent) → (gave (read n l rows lent) ≡ true) ↔ GivesPage n l rows
-gives-exactly n l rows lent = (λ e. these (page-given n l rows lent e), solves)
+-- exactly where the outcome gave one, in any order
+pub gives-exactly : (n l : ℕ) (entries order : List ℕ) (lent : Lent) → (gave (read n l entries order lent) ≡ true) ↔ GivesPage n l (taken l entries order)
+gives-exactly n l entries order lent = (λ e. these (page-given n l entries order lent e), solves)
   where
-    these : Given n l rows lent → GivesPage n l rows
-    these g = record {
-      enough = unfold few in le-ltb (rank rows) n (omega (arith, marked-le (picked n rows), tie-never n rows (g .chosen), length-picked n rows));
-      chosen = g .chosen;
-      sound = g .sound;
+    these : Given n l entries order lent → GivesPage n l (taken l entries order)
+    these g = record { enough = g .enough; chosen = g .chosen; sound = g .sound }
+
+    solves : GivesPage n l (taken l entries order) → gave (read n l entries order lent) ≡ true
+    solves g = unfold gave read told ended verdict answerNumbers in rw (g .enough, g .chosen, g .sound)
+
+-- what is left of rows of rank n, read in list order: all of them agree
+unfoldable shown : ℕ → ℕ → List ℕ → Lent → Outcome
+shown n l rows lent =
+    record {
+      answer = answer.Page n (length rows);
+      lent =
+          record {
+            page = over (flat l (given n l rows)) (lent .page);
+            uses = over (listedUses rows) (lent .uses);
+            roles = over (listedRoles telling n rows) (lent .roles);
+            scratch = over zeros (lent .scratch);
+          };
     }
 
-    solves : GivesPage n l rows → gave (read n l rows lent) ≡ true
-    solves g = unfold gave read solved ended answerNumbers in rw (g .enough, g .chosen, g .sound)
+module _ (n l : ℕ) (entries rows : List ℕ) (are : map (vector l) entries ≡ rows) (inside : Below (2 ^ n) (map (constraint l) rows)) (full : rank rows ≡ n) (g : GivesPage n l rows) (lent : Lent) where
+  taken-are : taken l entries (inListOrder entries) ≡ rows
+  taken-are = taken-all l entries ∙ are
 
--- with rank n: all rows agree
-full-read : (n l : ℕ) (rows : List ℕ) → Below (2 ^ n) (map (constraint l) rows) → rank rows ≡ n → GivesPage n l rows → (lent : Lent)
-    → read n l rows lent ≡ ended n rows lent (answer.Page n (length rows)) telling (flat l (given n l rows))
-unfolding read solved
-full-read n l rows inside full g lent =
-    rw (g .enough) (rw (g .chosen) (rw (g .sound) (rw (rank-agreement n l rows inside full (g .sound)) (rw full))))
+  full-answer : verdict n l (taken l entries (inListOrder entries)) ≡ answered (given n l rows)
+  unfolding verdict
+  full-answer = rw taken-are (rw (g .enough, g .chosen, g .sound))
+
+  full-read : read n l entries (inListOrder entries) lent ≡ shown n l rows lent
+  unfolding read told ended shown
+  full-read = rw full-answer (rw (taken-are, rank-agreement n l rows inside full (g .sound), full, uses-all l entries, roles-all l entries telling n, are))
 
 -- ---- another payload
 
@@ -77,24 +94,18 @@ module _ (n l : ℕ) (before : List ℕ) (r : ℕ) (after : List ℕ) (inside : 
     sound = same-singular l old new moves n ∙ g .sound;
   }
 
-  swapped-read : (lent : Lent) → read n l new lent ≡ ended n old lent (answer.Page n (length old)) telling (flat l (given n l new))
-  swapped-read lent = full-read n l new swapped-inside new-full swapped-gives lent ∙ marks (length new) (length-append before (other ∷ after) ∙ sym (length-append before (r ∷ after))) (flat l (given n l new))
-    where
-      marks : (m : ℕ) → m ≡ length old → (page : List ℕ) → ended n new lent (answer.Page n m) telling page ≡ ended n old lent (answer.Page n (length old)) telling page
-      marks m e page = unfold ended usesMarks rolesMarks in
-          rw (same-kept l old new moves, same-uses l old new moves, same-picked l old new moves n, e)
-
-  pub unconfirmed : (lent : Lent) → Untold (read n l old lent) (read n l new lent)
-  unfolding ended
-  unconfirmed lent =
-      let was : read n l old lent ≡ ended n old lent (answer.Page n (length old)) telling (flat l (given n l old)) = full-read n l old inside full g lent in
-      let is : read n l new lent ≡ ended n old lent (answer.Page n (length old)) telling (flat l (given n l new)) = swapped-read lent in
-      record {
-        answer = ap (λ o. o .answer) is ∙ sym (ap (λ o. o .answer) was);
-        uses = ap (λ o. o .lent .uses) is ∙ sym (ap (λ o. o .lent .uses) was);
-        roles = ap (λ o. o .lent .roles) is ∙ sym (ap (λ o. o .lent .roles) was);
-        scratch = ap (λ o. o .lent .scratch) is ∙ sym (ap (λ o. o .lent .scratch) was);
-      }
+  -- two lists of entries with these rows, read in list order
+  pub unconfirmed : (one two : List ℕ) → map (vector l) one ≡ before ++ r ∷ after → map (vector l) two ≡ before ++ other ∷ after → (lent : Lent)
+      → Untold (read n l one (inListOrder one) lent) (read n l two (inListOrder two) lent)
+  unfolding shown listedUses listedRoles
+  unconfirmed one two first second lent =
+      rw (full-read n l one old first inside full g lent, full-read n l two new second swapped-inside new-full swapped-gives lent)
+      (unfold shown listedUses listedRoles in record {
+        answer = ap (answer.Page n) (length-append before (other ∷ after) ∙ sym (length-append before (r ∷ after)));
+        uses = rw (same-kept l old new moves, same-uses l old new moves);
+        roles = rw (same-kept l old new moves, same-picked l old new moves n);
+        scratch = refl;
+      })
 
   -- all rows agree with the new page
   pub other-agree : All (agrees l (given n l new)) new

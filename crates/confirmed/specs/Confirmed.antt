@@ -10,7 +10,8 @@ use lib.ListN.{length, getD, take}
 use Rattle.space.specs.Lists.{select, marked, count, All, Below}
 use Rattle.rows.specs.Rows.{agrees, symbols, rowsOf}
 use Rattle.reading.specs.Reading.{keptRows, rank, uses, picked, pickedRows, pageOf, few, tie, singular}
-use Rattle.reading.specs.Outcome.{Outcome, usesMarks}
+use Rattle.reading.specs.Listed.{listedUses}
+use Rattle.reading.specs.Outcome.{Outcome}
 
 -- Every picked row has a use: none of them has 0.
 unfoldable pub confirmed : ℕ → List ℕ → Bool
@@ -68,9 +69,9 @@ pub record Enough (n l : ℕ) (rows page : List ℕ) (b : ℕ) : Type 0 where
 
 -- ---- a row that nothing speaks for
 
--- The row r, after some rows and before others, is kept and has no use: its mark is 0.
+-- The row r, after some rows and before others in list order, is kept and has no use: its mark is 0.
 abbrev pub Unused : List ℕ → ℕ → List ℕ → Type 0
-Unused before r after = getD (usesMarks (before ++ r ∷ after)) (length before) 65535 ≡ 0
+Unused before r after = getD (listedUses (before ++ r ∷ after)) (length before) 65535 ≡ 0
 
 -- Nothing but the page tells two outcomes apart: not the answer with its rank and agreement, and none of the other lent buffers.
 pub record Untold (o p : Outcome) : Type 0 where

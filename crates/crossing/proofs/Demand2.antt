@@ -11,8 +11,8 @@ use lib.Pow.{pow-mono}
 use Rattle.space.specs.Lists.{All, Below}
 use Rattle.space.proofs.Lists.{below-more}
 use Rattle.octets.specs.Octets.{flat}
-use Rattle.rows.specs.Rows.{shape, symbols, rowBytes, rowsOf, constraint, agrees, made}
-use Rattle.rows.proofs.Lists.{rowCount-flat, rows-flat}
+use Rattle.rows.specs.Rows.{shape, symbols, rowBytes, listRowBytes, rowsOf, constraint, agrees, made}
+use Rattle.rows.proofs.Lists.{rowCount-flat, entries-flat, rows-flat}
 use Rattle.rows.proofs.Pages.{symbols-below, made-constraint, made-agrees}
 use Rattle.rows.proofs.Shape.{shape-range}
 use Rattle.rows.proofs.Sums.{rows-lt}
@@ -21,9 +21,11 @@ use Rattle.draw.specs.Draw as draw
 use Rattle.draw.proofs.Laws.{drawn-below}
 use Rattle.reading.specs.declared.Answer.the-variants as answer
 use Rattle.reading.specs.Reading.{rank}
-use Rattle.reading.specs.Outcome.{Lent, passes, roomy, checks, outcome, ended, telling}
+use Rattle.reading.specs.Orders.{inListOrder}
+use Rattle.reading.specs.Marks.{telling}
+use Rattle.reading.specs.Outcome.{Lent, passes, roomy, checks, outcome, ended}
 use Rattle.reading.proofs.Checks.{none-stray, flat-whole}
-use Rattle.reading.proofs.Demand2.{demand-2}
+use Rattle.demands.proofs.Plain.{plain-demand-2}
 use Rattle.writing.specs.Writing.{frameOf}
 use Rattle.crossing.proofs.Sent.{frame-reads, frame-row}
 use Rattle.crossing.specs.Held.{listLaid}
@@ -33,7 +35,7 @@ use Rattle.crossing.proofs.Laid.{Own, caught-list}
 -- ---- a list of rows passes the checks
 
 pub flat-passes : (n l : ℕ) (rows : List ℕ) → shape n l ≡ true → length rows ≤ 512 → Below (2 ^ (8 * rowBytes l)) rows → Below (2 ^ n) (map (constraint l) rows)
-    → (lent : Lent) → roomy n l (length rows) lent ≡ true → checks n l (flat (rowBytes l) rows) lent ≡ passes
+    → (lent : Lent) → roomy n l (length rows) lent ≡ true → checks n l (flat (listRowBytes l) rows) lent ≡ passes
 unfolding checks
 flat-passes n l rows s most b inside lent room = rw (s, flat-whole l rows most, rowCount-flat l rows, room, rows-flat l rows b) (none-stray n l 0 rows inside)
 
@@ -71,22 +73,23 @@ module _ (number n l : ℕ) (page : List ℕ) (small : number < 2 ^ 32) (s : sha
     unfolding rowsFor
     many = length-map (ownOf caught) _
 
-    pub crossed-list : (list : List ℕ) → rowBytes l * length (ownOf caught) ≤ length list
-        → listLaid number n l (framesOf (λ seed. frameOf number n l seed page) caught) list ≡ flat (rowBytes l) rows
+    pub crossed-list : (list : List ℕ) → listRowBytes l * length (ownOf caught) ≤ length list
+        → listLaid number n l (framesOf (λ seed. frameOf number n l seed page) caught) list ≡ flat (listRowBytes l) rows
     unfolding rowsFor
     crossed-list list room = caught-list number n l (λ seed. frameOf number n l seed page) _ IsSeed frame-own s caught m most list room
 
     -- whatever was caught besides: "gives that page whenever its rank reaches the number of symbols"
-    pub crossing-2 : (list : List ℕ) → rowBytes l * length (ownOf caught) ≤ length list → (lent : Lent) → roomy n l (length (ownOf caught)) lent ≡ true
+    pub crossing-2 : (list : List ℕ) → listRowBytes l * length (ownOf caught) ≤ length list → (lent : Lent) → roomy n l (length (ownOf caught)) lent ≡ true
         → n ≤ rank (rowsFor n l page (ownOf caught))
         → outcome n l (listLaid number n l (framesOf (λ seed. frameOf number n l seed page) caught) list) lent
-        ≡ ended n (rowsFor n l page (ownOf caught)) lent (answer.Page n (length (ownOf caught))) telling page
+        ≡ ended n l (rowsFor n l page (ownOf caught)) (inListOrder (rowsFor n l page (ownOf caught))) lent (answer.Page n (length (ownOf caught))) telling page
     crossing-2 list room lent roomed enough =
         rw (crossed-list list room)
-        (demand-2 n l (flat (rowBytes l) rows) lent passing page size b (rw same (rows-agree (ownOf caught))) (rw same enough) ∙ rw same (rw (rowCount-flat l rows) (rw many)))
+        (plain-demand-2 n l (flat (listRowBytes l) rows) lent passing page size b (rw same (rows-agree (ownOf caught))) (rw same enough)
+        ∙ rw (entries-flat l rows (rows-low (ownOf caught)), rowCount-flat l rows, many))
       where
-        same : rowsOf l (flat (rowBytes l) rows) ≡ rows
+        same : rowsOf l (flat (listRowBytes l) rows) ≡ rows
         same = rows-flat l rows (rows-low (ownOf caught))
 
-        passing : checks n l (flat (rowBytes l) rows) lent ≡ passes
+        passing : checks n l (flat (listRowBytes l) rows) lent ≡ passes
         passing = flat-passes n l rows s (omega (arith, many)) (rows-low (ownOf caught)) (rows-inside (ownOf caught)) lent (rw many roomed)

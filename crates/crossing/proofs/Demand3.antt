@@ -16,9 +16,9 @@ use Rattle.octets.specs.Octets.{number, flat, xorBytes}
 use Rattle.octets.proofs.Xors.{length-xorBytes, xorBytes-below}
 use Rattle.octets.proofs.Numbers.{number-lt}
 use Rattle.octets.proofs.Runs.{flat-below}
-use Rattle.rows.specs.Rows.{shape, symbols, rowBytes, constraint}
+use Rattle.rows.specs.Rows.{shape, symbols, rowBytes, listRowBytes, constraint}
 use Rattle.rows.specs.Shift.{shifted, shiftedList}
-use Rattle.rows.proofs.Lists.{rows-flat}
+use Rattle.rows.proofs.Shifts.{shifted-flat}
 use Rattle.rows.proofs.Sums.{rows-lt}
 use Rattle.rows.proofs.Pages.{symbols-below}
 use Rattle.rows.proofs.Shape.{shape-range}
@@ -26,7 +26,7 @@ use Rattle.draw.specs.Draw as draw
 use Rattle.draw.proofs.Laws.{drawn-below}
 use Rattle.reading.specs.Outcome.{Lent, roomy, checks, passes, outcome}
 use Rattle.reading.specs.Added.{added}
-use Rattle.reading.proofs.Demand3.{demand-3}
+use Rattle.demands.proofs.Plain.{plain-demand-3}
 use Rattle.crossing.specs.Held.{listLaid}
 use Rattle.crossing.specs.Caught.{Caught, own, other, framesOf, ownOf, Mixed}
 use Rattle.crossing.specs.Taken.{Take, IsTake, taken}
@@ -67,8 +67,8 @@ module _ (page-number n l : ℕ) (small : page-number < 2 ^ 32) (s : shape n l �
         below-more (2 ^ (n + 8 * l)) (2 ^ (8 * rowBytes l)) (pow-mono (omega (arith, shape-range n l s .n-high))) (map (rowTaken n l page) ts)
         (rows-lt n l (map (rowTaken n l page) ts) (taken-inside ts a))
 
-    crossed-rows : (caught : List (Caught Take)) → Mixed page-number n l (IsTake l) caught → length (ownOf caught) ≤ 512 → (list : List ℕ) → rowBytes l * length (ownOf caught) ≤ length list
-        → listLaid page-number n l (framesOf (taken page-number n l page) caught) list ≡ flat (rowBytes l) (map (rowTaken n l page) (ownOf caught))
+    crossed-rows : (caught : List (Caught Take)) → Mixed page-number n l (IsTake l) caught → length (ownOf caught) ≤ 512 → (list : List ℕ) → listRowBytes l * length (ownOf caught) ≤ length list
+        → listLaid page-number n l (framesOf (taken page-number n l page) caught) list ≡ flat (listRowBytes l) (map (rowTaken n l page) (ownOf caught))
     crossed-rows caught m most list room =
         caught-list page-number n l (taken page-number n l page) (rowTaken n l page) (IsTake l) (λ t a. taken-own page-number n l page small s b t a) s caught m most list room
 
@@ -82,13 +82,13 @@ module _ (page-number n l : ℕ) (small : page-number < 2 ^ 32) (s : shape n l �
         (moved-rows ts (a .1))
 
     pub crossing-3 : (caught : List (Caught Take)) → Mixed page-number n l (IsTake l) caught → length (ownOf caught) ≤ 512
-        → (list : List ℕ) → rowBytes l * length (ownOf caught) ≤ length list → (lent : Lent) → roomy n l (length (ownOf caught)) lent ≡ true
+        → (list : List ℕ) → listRowBytes l * length (ownOf caught) ≤ length list → (lent : Lent) → roomy n l (length (ownOf caught)) lent ≡ true
         → outcome n l (listLaid page-number n l (framesOf (taken page-number n l q) caught) list) lent
         ≡ added (xorBytes p q) (outcome n l (listLaid page-number n l (framesOf (taken page-number n l p) caught) list) lent)
     crossing-3 caught m most list room lent roomed =
         rw (crossed-rows q sq bq caught m most list room) (rw (crossed-rows p sp bp caught m most list room)
         (ap (λ (bytes : List ℕ). outcome n l bytes lent) moved
-        ∙ demand-3 n l (flat (rowBytes l) rows) lent (flat-below (8 + l) rows) passing (xorBytes p q) (length-xorBytes p q (sp ∙ sym sq) ∙ sp) (xorBytes-below p q bp bq)))
+        ∙ plain-demand-3 n l (flat (listRowBytes l) rows) lent (flat-below (8 + l) rows) passing (xorBytes p q) (length-xorBytes p q (sp ∙ sym sq) ∙ sp) (xorBytes-below p q bp bq)))
       where
         takes : List Take
         takes = ownOf caught
@@ -99,10 +99,12 @@ module _ (page-number n l : ℕ) (small : page-number < 2 ^ 32) (s : shape n l �
         rows : List ℕ
         rows = map (rowTaken n l p) takes
 
-        moved : flat (rowBytes l) (map (rowTaken n l q) takes) ≡ shiftedList l (symbols n l (xorBytes p q)) (flat (rowBytes l) rows)
-        moved = unfold shiftedList in rw (rows-flat l rows (taken-low p sp bp takes a)) (rw (moved-rows takes a))
+        moved : flat (listRowBytes l) (map (rowTaken n l q) takes) ≡ shiftedList l (symbols n l (xorBytes p q)) (flat (listRowBytes l) rows)
+        moved =
+            let both : Below (2 ^ (8 * l)) (symbols n l (xorBytes p q)) = symbols-below n l (xorBytes p q) (length-xorBytes p q (sp ∙ sym sq) ∙ sp) (xorBytes-below p q bp bq) in
+            rw (shifted-flat l (symbols n l (xorBytes p q)) both rows (taken-low p sp bp takes a)) (rw (moved-rows takes a))
 
-        passing : checks n l (flat (rowBytes l) rows) lent ≡ passes
+        passing : checks n l (flat (listRowBytes l) rows) lent ≡ passes
         passing =
             flat-passes n l rows s (omega (arith, length-map takes (rowTaken n l p))) (taken-low p sp bp takes a) (taken-inside p sp bp takes a) lent
             (rw (length-map takes (rowTaken n l p)) roomed)

@@ -12,7 +12,7 @@ use Rattle.octets.specs.Octets.{bytes, flat, lay}
 use Rattle.octets.proofs.Numbers.{length-bytes}
 use Rattle.octets.proofs.Runs.{flat-append}
 use Rattle.octets.proofs.Lay.{length-lay}
-use Rattle.rows.specs.Rows.{shape, rowBytes}
+use Rattle.rows.specs.Rows.{shape, listRowBytes}
 use Rattle.frame.specs.declared.Frame.the-variants as frames
 use Rattle.laying.specs.declared.Laid.the-variants as laids
 use Rattle.frame.specs.Reading.{reading}
@@ -35,15 +35,15 @@ take-laid at new old h =
 
 pub record Holds (l total : ℕ) (rows : List ℕ) (s : Held) : Type 0 where
   pub many : s .rows ≡ length rows
-  pub list : listHeld l s ≡ flat (rowBytes l) rows
-  pub room : rowBytes l * total ≤ length (s .list)
+  pub list : listHeld l s ≡ flat (listRowBytes l) rows
+  pub room : listRowBytes l * total ≤ length (s .list)
 
-blank-holds : (l total : ℕ) (list : List ℕ) → rowBytes l * total ≤ length list → Holds l total [] (blank list)
+blank-holds : (l total : ℕ) (list : List ℕ) → listRowBytes l * total ≤ length list → Holds l total [] (blank list)
 unfolding listHeld flat
 blank-holds l total list h = let zero : (8 + l) * 0 ≡ 0 = omega arith in record { many = refl; list = rw zero; room = h }
 
 -- the next row has its place
-next-inside : (l total : ℕ) (rows : List ℕ) (s : Held) → Holds l total rows s → length rows < total → rowBytes l * s .rows + rowBytes l ≤ length (s .list)
+next-inside : (l total : ℕ) (rows : List ℕ) (s : Held) → Holds l total rows s → length rows < total → listRowBytes l * s .rows + listRowBytes l ≤ length (s .list)
 next-inside l total rows s h less =
     let fewer : s .rows < total = omega (arith, h .many) in
     omega (arith, mul-le-mul-left (8 + l) fewer, mul-suc (8 + l) (s .rows), h .room)
@@ -55,12 +55,12 @@ module _ (number n l : ℕ) where
   pub record Own (frame : List ℕ) (x : ℕ) : Type 0 where
     pub seed : ℕ
     pub reads : reading frame ≡ frames.Good number n l seed
-    pub row : frameRow frame ≡ bytes (rowBytes l) x
+    pub row : frameRow frame ≡ bytes (listRowBytes l) x
 
   -- what was caught, with the row that each of the page's own frames has
   module _ {A : Type 0} (make : A → List ℕ) (row : A → ℕ) (Right : A → Type 0) (owns : (a : A) → Right a → Own (make a) (row a)) (shaped : shape n l ≡ true) (total : ℕ) (most : total ≤ 512) where
     own-laid : (frame : List ℕ) (x : ℕ) → Own frame x → (rows : List ℕ) (s : Held) → Holds l total rows s → length rows < total
-        → offered number n l frame s ≡ record { list = lay (rowBytes l * s .rows) (bytes (rowBytes l) x) (s .list); rows = suc (s .rows) }
+        → offered number n l frame s ≡ record { list = lay (listRowBytes l * s .rows) (bytes (listRowBytes l) x) (s .list); rows = suc (s .rows) }
     unfolding offered
     own-laid frame x o rows s h less = rw placed (rw (o .row) (unfold listAfter numberOf in refl))
       where
@@ -73,25 +73,25 @@ module _ (number n l : ℕ) where
         (record {
           many = omega (arith, h .many, length-append rows (x ∷ []));
           list = unfold listHeld in longer;
-          room = rw (length-lay (rowBytes l * s .rows) (bytes (rowBytes l) x) (s .list) (omega (arith, inside, length-bytes (8 + l) x))) (h .room);
+          room = rw (length-lay (listRowBytes l * s .rows) (bytes (listRowBytes l) x) (s .list) (omega (arith, inside, length-bytes (8 + l) x))) (h .room);
         })
       where
-        inside : rowBytes l * s .rows + rowBytes l ≤ length (s .list)
+        inside : listRowBytes l * s .rows + listRowBytes l ≤ length (s .list)
         inside = next-inside l total rows s h less
 
-        next : rowBytes l * suc (s .rows) ≡ rowBytes l * s .rows + length (bytes (rowBytes l) x)
+        next : listRowBytes l * suc (s .rows) ≡ listRowBytes l * s .rows + length (bytes (listRowBytes l) x)
         next = omega (arith, mul-suc (8 + l) (s .rows), length-bytes (8 + l) x)
 
-        last : flat (rowBytes l) rows ++ flat (rowBytes l) (x ∷ []) ≡ flat (rowBytes l) rows ++ bytes (rowBytes l) x
-        last = unfold flat in ap (λ (t : List ℕ). flat (rowBytes l) rows ++ t) (append-nil (bytes (rowBytes l) x))
+        last : flat (listRowBytes l) rows ++ flat (listRowBytes l) (x ∷ []) ≡ flat (listRowBytes l) rows ++ bytes (listRowBytes l) x
+        last = unfold flat in ap (λ (t : List ℕ). flat (listRowBytes l) rows ++ t) (append-nil (bytes (listRowBytes l) x))
 
-        so-far : take (rowBytes l * s .rows) (s .list) ≡ flat (rowBytes l) rows
+        so-far : take (listRowBytes l * s .rows) (s .list) ≡ flat (listRowBytes l) rows
         so-far = unfold listHeld in h .list
 
-        longer : take (rowBytes l * suc (s .rows)) (lay (rowBytes l * s .rows) (bytes (rowBytes l) x) (s .list)) ≡ flat (rowBytes l) (rows ++ (x ∷ []))
+        longer : take (listRowBytes l * suc (s .rows)) (lay (listRowBytes l * s .rows) (bytes (listRowBytes l) x) (s .list)) ≡ flat (listRowBytes l) (rows ++ (x ∷ []))
         longer =
-            rw next (take-laid (rowBytes l * s .rows) (bytes (rowBytes l) x) (s .list) (omega (arith, inside))
-            ∙ ap (λ (t : List ℕ). t ++ bytes (rowBytes l) x) so-far ∙ sym (flat-append (8 + l) rows (x ∷ []) ∙ last))
+            rw next (take-laid (listRowBytes l * s .rows) (bytes (listRowBytes l) x) (s .list) (omega (arith, inside))
+            ∙ ap (λ (t : List ℕ). t ++ bytes (listRowBytes l) x) so-far ∙ sym (flat-append (8 + l) rows (x ∷ []) ∙ last))
 
     caught-holds : (caught : List (Caught A)) → Mixed number n l Right caught → (rows : List ℕ) (s : Held) → Holds l total rows s → length rows + length (ownOf caught) ≤ total
         → Holds l total (rows ++ map row (ownOf caught)) (offeredAll number n l (framesOf make caught) s)
@@ -104,8 +104,8 @@ module _ (number n l : ℕ) where
 
   -- so the list that is read has the rows of the page's own frames, in order, and no others
   pub caught-list : {A : Type 0} (make : A → List ℕ) (row : A → ℕ) (Right : A → Type 0) → ((a : A) → Right a → Own (make a) (row a)) → shape n l ≡ true
-      → (caught : List (Caught A)) → Mixed number n l Right caught → length (ownOf caught) ≤ 512 → (list : List ℕ) → rowBytes l * length (ownOf caught) ≤ length list
-      → listLaid number n l (framesOf make caught) list ≡ flat (rowBytes l) (map row (ownOf caught))
+      → (caught : List (Caught A)) → Mixed number n l Right caught → length (ownOf caught) ≤ 512 → (list : List ℕ) → listRowBytes l * length (ownOf caught) ≤ length list
+      → listLaid number n l (framesOf make caught) list ≡ flat (listRowBytes l) (map row (ownOf caught))
   unfolding listLaid
   caught-list make row Right owns shaped caught m most list room =
       caught-holds make row Right owns shaped (length (ownOf caught)) most caught m [] (blank list) (blank-holds l (length (ownOf caught)) list room) (omega arith) .list

@@ -9,16 +9,17 @@ use lib.ListN.{length}
 use Rattle.space.specs.Space.{_⊕_}
 use Rattle.space.specs.Lists.{Below}
 use Rattle.space.proofs.Xor.{⊕-assoc, ⊕-swap, ⊕-zero, ⊕-cancel-r}
+use Rattle.space.proofs.SumBy.{sumBy-lt}
 use Rattle.rows.specs.Rows.{constraint, named, made}
 use Rattle.rows.specs.Shift.{shifted, plus}
-use Rattle.rows.proofs.Sums.{constraint-⊕, named-lt}
+use Rattle.rows.proofs.Sums.{constraint-⊕}
 use Rattle.rows.proofs.Pages.{made-constraint}
 use Rattle.rows.proofs.Shifts.{named-plus}
 
 -- a row is the sum of its constraint, moved up, and its payload
 made-sum : (l : ℕ) (page : List ℕ) → Below (2 ^ (8 * l)) page → (c : ℕ) → made l page c ≡ c * 2 ^ (8 * l) ⊕ named page c
 unfolding made _⊕_
-made-sum l page b c = sym (xor-shifted c (8 * l) (named page c) (named-lt (8 * l) page b c))
+made-sum l page b c = sym (xor-shifted c (8 * l) (named page c) (sumBy-lt (8 * l) page b c))
 
 low-constraint : (l x : ℕ) → x < 2 ^ (8 * l) → constraint l x ≡ 0
 unfolding constraint

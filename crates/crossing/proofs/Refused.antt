@@ -5,7 +5,7 @@ use Prim.Native.Nat.{ℕ, _*_}
 use mathlib.Core.Bool.{Bool, true, false, cond, not, _&&_, true≢false}
 use mathlib.Core.List.{List}
 use lib.Dec.{eqb}
-use Rattle.rows.specs.Rows.{shape, rowBytes}
+use Rattle.rows.specs.Rows.{shape, listRowBytes}
 use Rattle.laying.specs.declared.Laid.{Laid}
 use Rattle.laying.specs.declared.Laid.the-variants as laids
 use Rattle.frame.specs.Reading.{reading}
@@ -41,4 +41,4 @@ module _ (number n l : ℕ) where
   unfolding offered
   refused-offered frame e s =
       let refused = refused-laid frame e (s .rows) (s .list) in
-      rw (refused, same-list (laid frame number n l (s .rows) (s .list)) (rowBytes l * s .rows) (frameRow frame) (s .list) refused)
+      rw (refused, same-list (laid frame number n l (s .rows) (s .list)) (listRowBytes l * s .rows) (frameRow frame) (s .list) refused)

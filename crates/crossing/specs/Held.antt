@@ -4,7 +4,7 @@ use mathlib.Core.Bool.{cond}
 use mathlib.Core.List.{List, [], _∷_}
 use lib.Dec.{eqb}
 use lib.ListN.{take}
-use Rattle.rows.specs.Rows.{rowBytes}
+use Rattle.rows.specs.Rows.{listRowBytes}
 use Rattle.laying.specs.Laying.{laid, numberOf, listAfter, frameRow}
 
 -- The list lent for the rows, and how many are laid in it.
@@ -20,7 +20,7 @@ blank list = record { list = list; rows = 0 }
 unfoldable pub offered : ℕ → ℕ → ℕ → List ℕ → Held → Held
 offered number n l frame s =
     record {
-      list = listAfter (laid frame number n l (s .rows) (s .list)) (rowBytes l * s .rows) (frameRow frame) (s .list);
+      list = listAfter (laid frame number n l (s .rows) (s .list)) (listRowBytes l * s .rows) (frameRow frame) (s .list);
       rows = cond (eqb (numberOf (laid frame number n l (s .rows) (s .list))) 0) (suc (s .rows)) (s .rows);
     }
 
@@ -31,7 +31,7 @@ offeredAll number n l (frame ∷ frames) s = offeredAll number n l frames (offer
 
 -- The rows laid, as the list that is then read.
 unfoldable pub listHeld : ℕ → Held → List ℕ
-listHeld l s = take (rowBytes l * s .rows) (s .list)
+listHeld l s = take (listRowBytes l * s .rows) (s .list)
 
 -- The list that comes of frames laid one after the other into a lent list.
 unfoldable pub listLaid : ℕ → ℕ → ℕ → List (List ℕ) → List ℕ → List ℕ

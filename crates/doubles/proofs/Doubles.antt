@@ -9,8 +9,8 @@ use lib.Seq.{getD-drop}
 use borrow.Author.Tests.{lt-ltb}
 use borrow.Rule.Slice.PartMut.{putMid}
 use Rattle.space.specs.Lists.{Below}
-use Rattle.octets.specs.Octets.{number, bytes, lay}
-use Rattle.octets.proofs.Runs.{length-numbers, numbers-small, getD-numbers}
+use Rattle.octets.specs.Octets.{number, bytes, flat, lay}
+use Rattle.octets.proofs.Runs.{length-numbers, length-flat, numbers-small, numbers-flat, getD-numbers}
 use Rattle.octets.proofs.Numbers.{length-bytes}
 use Rattle.octets.proofs.Lay.{length-lay, lay-within}
 use Rattle.octets.proofs.Parts.{back}
@@ -22,6 +22,12 @@ length-pairs bs = length-numbers 2 (length bs / 2) bs
 
 pub pairs-lt : (bs : List ℕ) → Below 256 bs → Below 65536 (pairsIn bs)
 pairs-lt bs b = numbers-small 2 (length bs / 2) bs b
+
+-- there and back
+pub pairs-flat : (xs : List ℕ) → Below 65536 xs → pairsIn (flat 2 xs) ≡ xs
+pairs-flat xs b =
+    let half : length (flat 2 xs) / 2 ≡ length xs = omega (arith, length-flat 2 xs) in
+    rw half (numbers-flat 2 xs b)
 
 first-pair : (bs : List ℕ) → 2 ≤ length bs → number (take 2 bs) ≡ getD bs 0 0 * 256 + getD bs 1 0
 unfolding number

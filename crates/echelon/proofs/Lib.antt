@@ -1,8 +1,4 @@
-pub mod Leaves
-pub mod Uses
-pub mod Places
-pub mod Absorbing
-pub mod Vectors
+pub mod Staying
 pub mod Turning
-pub mod Emptied
+pub mod Outcomes
 pub mod Settled

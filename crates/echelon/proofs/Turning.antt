@@ -1,32 +1,36 @@
--- The loop of `absorb_each`: from arrival i on the rest of the rows ends as the whole list does.
+-- The loop of `absorb_each`: from place i of the order on the rest of the arrivals ends as the whole order does. Absorbing leaves the order as it
+-- was, so that the state still tells each arrival when its turn comes.
 -- Assumes nothing.
 use mathlib.Core.Path.{_≡_, refl, sym, ap, _∙_}
 use mathlib.Core.List.{List}
-use Prim.Native.Nat.{ℕ, suc, _+_, _*_, _/_, _≤_, _<_}
-use native.Mathlib.Nat.{div-mul-le-self}
+use Prim.Native.Nat.{ℕ, suc, _+_, _≤_, _<_}
 use native.Mathlib.Numerals.{add-one}
 use native.Mathlib.Omega.{arith}
-use lib.ListN.{length, take, drop}
+use lib.ListN.{length, drop, getD}
 use lib.Seq.{drop-cons, drop-length}
-use Rattle.octets.specs.Octets.{number, numbers}
-use Rattle.octets.proofs.Runs.{length-numbers, getD-numbers}
-use Rattle.echelon.specs.declared.Absorbed.{Absorbed}
-use Rattle.echelon.specs.declared.Absorbed.the-variants.{Kept, Other, Misfit}
-use Rattle.echelon.specs.State.{absorption}
-use Rattle.echelon.specs.Eliminating.{Elimination, rankAfter, oneMore, absorbEach}
-use Rattle.octets.proofs.Views.{part-room}
+use Rattle.octets.specs.Octets.{number}
+use Rattle.octets.proofs.Runs.{length-numbers}
+use Rattle.lists.specs.Lists.{rowAt}
+use Rattle.state.specs.Layout.{stateBytes, orderIn, arrivalAt}
+use Rattle.views.proofs.Told.{arrival-told}
+use Rattle.absorb.specs.declared.Absorbed.{Absorbed}
+use Rattle.absorb.specs.declared.Absorbed.the-variants.{Kept, Other, Misfit}
+use Rattle.echelon.specs.Eliminating.{Elimination, rankAfter, oneMore, absorbIn}
+use Rattle.echelon.proofs.Staying.{absorbed-order}
 
--- the rows of a list, m of them
-abbrev pub rowsIn : ℕ → List ℕ → List ℕ
-rowsIn key list = numbers key (length list / key) list
+pub length-orderIn : (n : ℕ) (state : List ℕ) → length (orderIn n state) ≡ n
+unfolding orderIn
+length-orderIn n state = length-numbers 2 n _
 
-pub record Turning (key : ℕ) (list : List ℕ) (whole : Elimination) (state : List ℕ) (r i : ℕ) : Type 0 where
-  pub within : i ≤ length list / key
+pub record Turning (l : ℕ) (list : List ℕ) (n : ℕ) (whole : Elimination) (old state : List ℕ) (r i : ℕ) : Type 0 where
+  pub within : i ≤ n
   pub few : r ≤ i
-  pub rest : absorbEach key i (drop i (rowsIn key list)) (record { state = state; rank = r }) ≡ whole
+  pub long : length state ≡ length old
+  pub same : orderIn n state ≡ orderIn n old
+  pub rest : absorbIn l list (drop i (orderIn n old)) (record { state = state; rank = r }) ≡ whole
 
-pub turning-start : (key : ℕ) (list state : List ℕ) → Turning key list (absorbEach key 0 (rowsIn key list) (record { state = state; rank = 0 })) state 0 0
-turning-start key list state = record { within = omega arith; few = omega arith; rest = refl }
+pub turning-start : (l : ℕ) (list : List ℕ) (n : ℕ) (old : List ℕ) → Turning l list n (absorbIn l list (orderIn n old) (record { state = old; rank = 0 })) old old 0 0
+turning-start l list n old = record { within = omega arith; few = omega arith; long = refl; same = refl; rest = refl }
 
 rank-few : (a : Absorbed) (r i : ℕ) → r ≤ i → rankAfter a r ≤ i + 1
 unfolding rankAfter
@@ -34,36 +38,34 @@ rank-few Kept r i h = omega arith
 rank-few Other r i h = omega arith
 rank-few Misfit r i h = omega arith
 
-module _ (key : ℕ) (list : List ℕ) (whole : Elimination) (state : List ℕ) (r i : ℕ) (T : Turning key list whole state r i) where
-  module _ (h : i < length list / key) where
-    -- where the row is
-    pub row-room : i * key + key ≤ length list
-    row-room = part-room key (length list / key) i list (div-mul-le-self (length list) key) h
+module _ (l : ℕ) (list : List ℕ) (n : ℕ) (whole : Elimination) (old state : List ℕ) (r i : ℕ) (T : Turning l list n whole old state r i) where
+  -- one arrival more
+  pub turning-more : i < n → n ≤ 512 → stateBytes ≤ length old → (arrival : ℕ) → arrival ≡ arrivalAt i state → (next : List ℕ) (k : ℕ) → length next ≡ length state
+      → next ≡ oneMore l list arrival (record { state = state; rank = r }) .state → k ≡ oneMore l list arrival (record { state = state; rank = r }) .rank
+      → Turning l list n whole old next k (i + 1)
+  unfolding oneMore absorbIn
+  turning-more h few room arrival at next k long e f =
+      record {
+        within = omega arith;
+        few = rw f (rank-few _ r i (T .few));
+        long = long ∙ T .long;
+        same = rw e (absorbed-order (length (rowAt l arrival list)) (number (rowAt l arrival list)) arrival r state n) ∙ T .same;
+        rest = rw (add-one i) (rw e (rw f (sym split ∙ T .rest)));
+      }
+    where
+      told : getD (orderIn n old) i 0 ≡ arrival
+      told = sym (at ∙ arrival-told n state (omega (arith, T .long)) i h few ∙ ap (λ (order : List ℕ). getD order i 0) (T .same))
 
-    abbrev row : List ℕ
-    row = take key (drop (i * key) list)
+      split : absorbIn l list (drop i (orderIn n old)) (record { state = state; rank = r })
+          ≡ absorbIn l list (drop (suc i) (orderIn n old)) (oneMore l list arrival (record { state = state; rank = r }))
+      split =
+          ap (λ (xs : List ℕ). absorbIn l list xs (record { state = state; rank = r })) (drop-cons (orderIn n old) i 0 (omega (arith, length-orderIn n old)))
+          ∙ ap (λ (a : ℕ). absorbIn l list (drop (suc i) (orderIn n old)) (oneMore l list a (record { state = state; rank = r }))) told
 
-    -- one row more
-    pub turning-more : (next : List ℕ) (n : ℕ) → next ≡ absorption key (number row) i r state .state → n ≡ rankAfter (absorption key (number row) i r state .answer) r
-        → Turning key list whole next n (i + 1)
-    unfolding absorbEach oneMore
-    turning-more next n e f =
-        record {
-          within = omega arith;
-          few = rw f (rank-few _ r i (T .few));
-          rest = rw (add-one i) (rw e (rw f (sym split ∙ T .rest)));
-        }
-      where
-        split : absorbEach key i (drop i (rowsIn key list)) (record { state = state; rank = r })
-            ≡ absorbEach key (suc i) (drop (suc i) (rowsIn key list)) (oneMore key i (number row) (record { state = state; rank = r }))
-        split =
-            ap (λ (xs : List ℕ). absorbEach key i xs (record { state = state; rank = r })) (drop-cons (rowsIn key list) i 0 (omega (arith, length-numbers key (length list / key) list)))
-            ∙ ap (λ (x : ℕ). absorbEach key (suc i) (drop (suc i) (rowsIn key list)) (oneMore key i x (record { state = state; rank = r }))) (getD-numbers key (length list / key) list i h)
-
-  pub turning-end : length list / key ≤ i → (r ≡ whole .rank) × (state ≡ whole .state)
-  unfolding absorbEach
+  pub turning-end : n ≤ i → (r ≡ whole .rank) × (state ≡ whole .state)
+  unfolding absorbIn
   turning-end h =
-      let e : i ≡ length (rowsIn key list) = omega (arith, T .within, length-numbers key (length list / key) list) in
+      let e : i ≡ length (orderIn n old) = omega (arith, T .within, length-orderIn n old) in
       let s : record { state = state; rank = r } ≡ whole =
-      sym (ap (λ (xs : List ℕ). absorbEach key i xs (record { state = state; rank = r })) (ap (λ (n : ℕ). drop n (rowsIn key list)) e ∙ drop-length (rowsIn key list))) ∙ T .rest in
+      sym (ap (λ (xs : List ℕ). absorbIn l list xs (record { state = state; rank = r })) (ap (λ (j : ℕ). drop j (orderIn n old)) e ∙ drop-length (orderIn n old))) ∙ T .rest in
       (ap (λ (w : Elimination). w .rank) s, ap (λ (w : Elimination). w .state) s)

@@ -1,17 +1,19 @@
--- A whole list taken in, row after row: `eliminate` of the code.
-use Prim.Native.Nat.{ℕ, suc}
+-- The rows of a list taken in, one after the other, in an order of arrivals: `eliminate` of the code.
+use Prim.Native.Nat.{ℕ, suc, _≤_}
 use mathlib.Core.Bool.{Bool, cond, _&&_}
 use mathlib.Core.List.{List, [], _∷_}
 use lib.Dec.{leb}
-use lib.ListN.{length, replicate}
-use Rattle.octets.specs.Octets.{over}
+use lib.ListN.{length}
 use Rattle.places.specs.Places.{mostRows}
-use Rattle.rows.specs.Rows.{rowBytes, rowCount, rowsOf}
-use Rattle.echelon.specs.declared.Absorbed.{Absorbed}
-use Rattle.echelon.specs.declared.Absorbed.the-variants as absorbed
+use Rattle.octets.specs.Octets.{number}
+use Rattle.lists.specs.Lists.{rowAt}
+use Rattle.state.specs.Layout.{stateBytes, orderIn}
+use Rattle.state.specs.Written.{emptied}
+use Rattle.absorb.specs.declared.Absorbed.{Absorbed}
+use Rattle.absorb.specs.declared.Absorbed.the-variants as absorbed
 use Rattle.echelon.specs.declared.Eliminated.{Eliminated}
 use Rattle.echelon.specs.declared.Eliminated.the-variants.{Rank, Misfit}
-use Rattle.echelon.specs.State.{stateBytes, absorption}
+use Rattle.absorb.specs.Absorbing.{absorption}
 
 -- The state, and the number of rows kept.
 pub record Elimination : Type 0 where
@@ -23,34 +25,35 @@ rankAfter absorbed.Kept r = suc r
 rankAfter absorbed.Other r = r
 rankAfter absorbed.Misfit r = r
 
--- One row more, as arrival m.
-unfoldable pub oneMore : ℕ → ℕ → ℕ → Elimination → Elimination
-oneMore key m row e =
-    record {
-      state = absorption key row m (e .rank) (e .state) .state;
-      rank = rankAfter (absorption key row m (e .rank) (e .state) .answer) (e .rank);
-    }
+-- The row of one arrival more.
+unfoldable pub oneMore : ℕ → List ℕ → ℕ → Elimination → Elimination
+oneMore l list arrival e =
+    let row = rowAt l arrival list in
+    let a = absorption (length row) (number row) arrival (e .rank) (e .state) in
+    record { state = a .state; rank = rankAfter (a .answer) (e .rank) }
 
--- "Rows are taken in list order", from arrival m on.
-unfoldable pub absorbEach : ℕ → ℕ → List ℕ → Elimination → Elimination
-absorbEach key m [] e = e
-absorbEach key m (row ∷ rows) e = absorbEach key (suc m) rows (oneMore key m row e)
+-- The rows of the arrivals of an order, as they stand there.
+unfoldable pub absorbIn : ℕ → List ℕ → List ℕ → Elimination → Elimination
+absorbIn l list [] e = e
+absorbIn l list (arrival ∷ order) e = absorbIn l list order (oneMore l list arrival e)
 
--- A state with no rows; all bytes behind it stay.
-unfoldable pub emptied : List ℕ → List ℕ
-emptied state = over (replicate stateBytes 0) state
+-- What eliminating asks: a payload of 1 to 32 bytes, at most 512 rows, and a state of so many bytes.
+pub record Eliminates (l taken room : ℕ) : Type 0 where
+  pub some : 1 ≤ l
+  pub most : l ≤ 32
+  pub many : taken ≤ mostRows
+  pub whole : stateBytes ≤ room
 
--- Whether so many rows of that shape fit a state of so many bytes.
 unfoldable pub eliminates : ℕ → ℕ → ℕ → Bool
-eliminates l m room = (leb 1 l && leb l 32) && (leb m mostRows && leb stateBytes room)
+eliminates l taken room = (leb 1 l && leb l 32) && (leb taken mostRows && leb stateBytes room)
 
 -- The answer, and the state afterwards.
 pub record Eliminating : Type 0 where
   pub answer : Eliminated
   pub state : List ℕ
 
--- Of the whole rows in a list of bytes; nothing is written where they do not fit.
-unfoldable pub elimination : ℕ → List ℕ → List ℕ → Eliminating
-elimination l list state =
-    let all = absorbEach (rowBytes l) 0 (rowsOf l list) (record { state = emptied state; rank = 0 }) in
-    cond (eliminates l (rowCount l list) (length state)) (record { answer = Rank (all .rank); state = all .state }) (record { answer = Misfit; state = state })
+-- Of the first so many arrivals in the state's order; nothing is written where they do not fit.
+unfoldable pub elimination : ℕ → List ℕ → ℕ → List ℕ → Eliminating
+elimination l list taken state =
+    let all = absorbIn l list (orderIn taken state) (record { state = emptied state; rank = 0 }) in
+    cond (eliminates l taken (length state)) (record { answer = Rank (all .rank); state = all .state }) (record { answer = Misfit; state = state })

@@ -14,12 +14,13 @@ use denote.Enum.Declared.{tagOf}
 use borrow.Author.Tests.{ltb-false, not-false, le-ltb}
 use Rattle.octets.specs.Octets.{number}
 use Rattle.rows.specs.Rows.{shape}
-use Rattle.frame.specs.declared.fields.Field.{Field}
+use Rattle.field.specs.declared.Field.{Field}
 use Rattle.frame.specs.declared.Frame.{Frame}
-use Rattle.frame.specs.declared.fields.Field.the-variants as field
+use Rattle.field.specs.declared.Field.the-variants as field
 use Rattle.frame.specs.declared.Frame.the-variants as frames
 use Rattle.frame.specs.Layout.{pageAt, shapeAt, seedAt, payloadAt, frameLength, value}
-use Rattle.frame.specs.Reading.{fieldOf, placed, expected, behind, first, nOf, lOf, second, third, ended, fourth, good, fromShape, reading}
+use Rattle.field.specs.Expected.{fieldOf, placed, expected}
+use Rattle.frame.specs.Reading.{refusing, behind, first, nOf, lOf, second, third, ended, fourth, good, fromShape, reading}
 use Rattle.frame.specs.Numbers.{frameNumbers, refused, numberOf, isGood, placeOf, payloadOf}
 use Rattle.frame.proofs.Frame.{the-type}
 use Rattle.frame.proofs.Tests.{passes}
@@ -38,7 +39,7 @@ refused-is (frames.Trailing place) o = (refl, refl)
 
 past-placed : (frame : List ℕ) (at : ℕ) (f : Field) (next : Frame) → isGood (behind (placed frame at f) next) ≡ true
     → (f ≡ field.Whole) × (isGood next ≡ true)
-unfolding behind placed frameNumbers
+unfolding behind refusing placed frameNumbers
 past-placed frame at field.Whole next e = (refl, e)
 past-placed frame at field.Short next e = absurd (false≢true e)
 past-placed frame at field.WrongTag next e = absurd (false≢true e)

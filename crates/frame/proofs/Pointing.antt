@@ -12,12 +12,13 @@ use lib.Seq.{drop-drop, getD-drop}
 use borrow.Author.Tests.{le-leb, lt-ltb, eq-eqb, ne-eqb}
 use Rattle.octets.specs.Octets.{number}
 use Rattle.rows.specs.Rows.{shape}
-use Rattle.frame.specs.declared.fields.Field.{Field}
-use Rattle.frame.specs.declared.fields.Field.the-variants as field
+use Rattle.field.specs.declared.Field.{Field}
+use Rattle.field.specs.declared.Field.the-variants as field
 use Rattle.frame.specs.declared.Frame.{Frame}
 use Rattle.frame.specs.declared.Frame.the-variants as frames
-use Rattle.frame.specs.Layout.{pageAt, shapeAt, seedAt, payloadAt, lengthAt, frameLength}
-use Rattle.frame.specs.Reading.{fieldOf, placed, expected, behind, first, nOf, lOf, second, third, ended, fourth, good, fromShape, reading}
+use Rattle.frame.specs.Layout.{pageAt, shapeAt, seedAt, payloadAt, frameLength}
+use Rattle.field.specs.Expected.{fieldOf, placed, expected, lengthAt}
+use Rattle.frame.specs.Reading.{refusing, behind, first, nOf, lOf, second, third, ended, fourth, good, fromShape, reading}
 use Rattle.frame.specs.Pointed.{someField, badTag, badLength, pointed}
 use Rattle.frame.proofs.Tests.{either}
 use Rattle.frame.proofs.Whole.{Whole, Told, told}
@@ -36,7 +37,7 @@ module _ (frame : List ℕ) where
 
   module _ (at tag size : ℕ) (one : One at tag size) (next : Frame) (right : Whole (drop at frame) tag size → Right next) where
     field-right : (f : Field) → Told (drop at frame) tag size f → Right (behind (placed frame at f) next)
-    unfolding behind placed pointed badTag badLength
+    unfolding behind refusing placed pointed badTag badLength
     field-right field.Whole t = right t
     field-right field.Short t = both-true _ _ (eq-eqb (length frame) _ refl) (lt-ltb (length frame) _ (omega (arith, one .within, length-drop at frame)))
     field-right field.WrongTag t =

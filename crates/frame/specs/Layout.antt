@@ -32,10 +32,6 @@ seedAt = shapeAt + (3 + 2)
 abbrev pub payloadAt : ℕ
 payloadAt = seedAt + (3 + 4)
 
--- The first length byte of the field that starts at `at`: behind its tag.
-abbrev pub lengthAt : ℕ → ℕ
-lengthAt at = at + 1
-
 -- "A frame has 22+L bytes".
 abbrev pub frameLength : ℕ → ℕ
 frameLength l = payloadAt + 3 + l

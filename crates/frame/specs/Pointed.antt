@@ -9,7 +9,8 @@ use Rattle.octets.specs.Octets.{number}
 use Rattle.rows.specs.Rows.{shape}
 use Rattle.frame.specs.declared.Frame.{Frame}
 use Rattle.frame.specs.declared.Frame.the-variants.{Good, Short, WrongTag, WrongLength, OutOfRange, Trailing}
-use Rattle.frame.specs.Layout.{pageAt, shapeAt, seedAt, payloadAt, lengthAt, frameLength}
+use Rattle.field.specs.Expected.{lengthAt}
+use Rattle.frame.specs.Layout.{pageAt, shapeAt, seedAt, payloadAt, frameLength}
 use Rattle.frame.specs.Reading.{nOf, lOf}
 
 -- One of the four fields passes a test of its start, its tag and its value's length.

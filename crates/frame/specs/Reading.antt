@@ -2,42 +2,29 @@
 use Prim.Native.Nat.{ℕ, _+_}
 use mathlib.Core.Bool.{cond, not}
 use mathlib.Core.List.{List}
-use lib.Dec.{eqb, ltb}
-use lib.ListN.{length, getD, take, drop}
+use lib.Dec.{ltb}
+use lib.ListN.{length, getD}
 use Rattle.octets.specs.Octets.{number}
 use Rattle.rows.specs.Rows.{shape}
-use Rattle.frame.specs.declared.fields.Field.{Field}
-use Rattle.frame.specs.declared.fields.Field.the-variants as field
-use Rattle.frame.specs.declared.fields.Found.{Found}
-use Rattle.frame.specs.declared.fields.Found.the-variants as found
+use Rattle.field.specs.declared.Refusal.{Refusal}
+use Rattle.field.specs.declared.Refusal.the-variants as refusal
+use Rattle.field.specs.declared.Found.{Found}
+use Rattle.field.specs.declared.Found.the-variants as found
+use Rattle.field.specs.Expected.{expected}
 use Rattle.frame.specs.declared.Frame.{Frame}
 use Rattle.frame.specs.declared.Frame.the-variants as frames
-use Rattle.frame.specs.Layout.{pageAt, shapeAt, seedAt, payloadAt, lengthAt, frameLength, value}
+use Rattle.frame.specs.Layout.{pageAt, shapeAt, seedAt, payloadAt, frameLength, value}
 
--- "In each field: under 3 bytes remain, 11 short; wrong tag, 12; wrong length, 13; value not all there, 11".
-unfoldable pub fieldOf : List ℕ → ℕ → ℕ → Field
-fieldOf rest tag size =
-    cond (ltb (length rest) 3) field.Short
-    (cond (not (eqb (getD rest 0 0) tag)) field.WrongTag
-    (cond (not (eqb (number (take 2 (drop 1 rest))) size)) field.WrongLength
-    (cond (ltb (length rest) (3 + size)) field.Short
-    field.Whole)))
-
--- "The place is the offset of the field's start"; since wish 2: "The place for 13 should be the first length byte, and for 11 the number of
--- bytes in the frame."
-unfoldable pub placed : List ℕ → ℕ → Field → Found
-placed frame at field.Whole = found.Whole
-placed frame at field.Short = found.Refused (frames.Short (length frame))
-placed frame at field.WrongTag = found.Refused (frames.WrongTag at)
-placed frame at field.WrongLength = found.Refused (frames.WrongLength (lengthAt at))
-
-unfoldable pub expected : List ℕ → ℕ → ℕ → ℕ → Found
-expected frame at tag size = placed frame at (fieldOf (drop at frame) tag size)
+-- A field that is not whole refuses the frame, with the place found in it.
+unfoldable pub refusing : Refusal → Frame
+refusing (refusal.Short place) = frames.Short place
+refusing (refusal.WrongTag place) = frames.WrongTag place
+refusing (refusal.WrongLength place) = frames.WrongLength place
 
 -- "Reading goes left to right": behind a whole field it goes on.
 unfoldable pub behind : Found → Frame → Frame
 behind found.Whole next = next
-behind (found.Refused refusal) next = refusal
+behind (found.Refused refusal) next = refusing refusal
 
 -- "tag 1, page number, 4 bytes"
 unfoldable pub first : List ℕ → Frame → Frame

@@ -1,9 +1,6 @@
 // Where the fields of a frame start, and where the values lie behind a field's tag and length. Document 01, "The frame".
 
-// In a field: its length stands behind its tag, and its value behind both.
-pub const LENGTH: usize = 1;
-
-pub const MARK: usize = 3;
+pub const MARK: usize = field::MARK;
 
 pub const PAGE_AT: usize = 0;
 

@@ -9,7 +9,8 @@ pub mod layout;
 mod numbers;
 mod parse;
 
-use fields::Found;
+use field::Found;
+use fields::refuse;
 use layout::PAGE_AT;
 use layout::PAYLOAD;
 pub use numbers::Numbers;
@@ -29,9 +30,9 @@ pub enum Frame {
 pub fn read(frame: &[u8]) -> Frame
     ensures { λ r. ⌜ r ≡ reading (now (frame .entry)) ⌝ }
 {
-    let found = fields::expect(frame, PAGE_AT, 1, 4);
+    let found = field::expect(frame, PAGE_AT, 1, 4);
     if let Found::Refused(refusal) = found {
-        return refusal;
+        return refuse(refusal);
     }
     parse::from_shape(frame)
 }

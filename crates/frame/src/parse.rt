@@ -6,8 +6,7 @@ ghost use Rattle.octets.specs.Octets.{number};
 ghost use Rattle.frame.specs.Layout.{shapeAt, seedAt, frameLength};
 ghost use Rattle.frame.specs.Reading.{fromShape, third, fourth, ended, good};
 use crate::Frame;
-use crate::fields::Found;
-use crate::fields::expect;
+use crate::fields::refuse;
 use crate::layout::PAGE;
 use crate::layout::PAYLOAD;
 use crate::layout::PAYLOAD_AT;
@@ -15,6 +14,8 @@ use crate::layout::SEED;
 use crate::layout::SEED_AT;
 use crate::layout::SHAPE;
 use crate::layout::SHAPE_AT;
+use field::Found;
+use field::expect;
 
 fn number_of(bytes: &[u8]) -> u32
     ensures { λ r. ⌜ r ≡ number (now (bytes .entry)) % 2 ^ 32 ⌝ }
@@ -42,11 +43,11 @@ fn from_seed(frame: &[u8], n: u8, l: u8) -> Frame
 {
     let seed = expect(frame, SEED_AT, 3, 4);
     if let Found::Refused(refusal) = seed {
-        return refusal;
+        return refuse(refusal);
     }
     let payload = expect(frame, PAYLOAD_AT, 4, l);
     if let Found::Refused(refusal) = payload {
-        return refusal;
+        return refuse(refusal);
     }
     values(frame, n, l)
 }
@@ -57,7 +58,7 @@ pub(crate) fn from_shape(frame: &[u8]) -> Frame
 {
     let found = expect(frame, SHAPE_AT, 2, 2);
     if let Found::Refused(refusal) = found {
-        return refusal;
+        return refuse(refusal);
     }
     let shape = &frame[SHAPE..SEED_AT];
     let n = shape[0];

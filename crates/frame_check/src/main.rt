@@ -112,7 +112,7 @@ fn into_lists(frame: &[u8], b: Base, row: usize)
 fn layings_in(room: &mut [u8], k: usize, b: Base)
     requires { ⌜ (length (now room) ≡ 57) × (1 ≤ b .n) × (b .n ≤ 64) × (1 ≤ b .l) × (b .l ≤ 32) ⌝ }
 {
-    let row = 8 + b.l as usize;
+    let row = rows::stride(b.l);
     let size = 3 * row + 5;
     let end = write_base(room, k, b);
     of_whole(&room[0..end], b, size);

@@ -80,7 +80,7 @@ fn rows_of(page: &[u8], b: Base)
     requires { ⌜ (length (now page) ≡ 2049) × (1 ≤ b .n) × (b .n ≤ 64) × (1 ≤ b .l) × (b .l ≤ 32) ⌝ }
 {
     let every = all(b.n);
-    let row = 8 + b.l as usize;
+    let row = rows::stride(b.l);
     let end = base::page_bytes(b);
     constraints(&page[0..end], b, every, row);
     rooms(&page[0..end], b, every, row);

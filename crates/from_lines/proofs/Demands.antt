@@ -8,13 +8,15 @@ use lib.ListN.{length}
 use borrow.Author.Tests.{eq-eqb}
 use Rattle.space.specs.Lists.{Below}
 use Rattle.octets.specs.Octets.{xorBytes}
-use Rattle.rows.specs.Rows.{shape, rowBytes}
+use Rattle.rows.specs.Rows.{shape, listRowBytes}
 use Rattle.frame.specs.Numbers.{frameNumbers}
 use Rattle.laying.specs.Laying.{samePage}
 use Rattle.writing.specs.Writing.{frameOf}
 use Rattle.reading.specs.declared.Answer.the-variants as answer
 use Rattle.reading.specs.Reading.{rank}
-use Rattle.reading.specs.Outcome.{Lent, roomy, outcome, ended, telling}
+use Rattle.reading.specs.Orders.{inListOrder}
+use Rattle.reading.specs.Marks.{telling}
+use Rattle.reading.specs.Outcome.{Lent, roomy, outcome, ended}
 use Rattle.reading.specs.Added.{added}
 use Rattle.crossing.specs.Held.{blank, offeredAll, listHeld, listLaid}
 use Rattle.crossing.specs.Caught.{Caught, own, other, framesOf, ownOf, Mixed, IsSeed, rowsFor}
@@ -53,10 +55,11 @@ module _ (number n l : ℕ) where
 module _ (number n l : ℕ) (page : List ℕ) (small : number < 2 ^ 32) (s : shape n l ≡ true) (size : length page ≡ n * l) (b : Below 256 page)
     (caught : List (Caught ℕ)) (m : Mixed number n l IsSeed caught) (first : OwnFirst caught) (most : length (ownOf caught) ≤ 512)
     (lines : List (List ℕ)) (are : framesIn lines ≡ framesOf (λ seed. frameOf number n l seed page) caught)
-    (list : List ℕ) (room : rowBytes l * length (ownOf caught) ≤ length list) (lent : Lent) (roomed : roomy n l (length (ownOf caught)) lent ≡ true) where
+    (list : List ℕ) (room : listRowBytes l * length (ownOf caught) ≤ length list) (lent : Lent) (roomed : roomy n l (length (ownOf caught)) lent ≡ true) where
   pub lines-2 : n ≤ rank (rowsFor n l page (ownOf caught))
       → (takenAll lines (started list) .expected ≡ Only (record { number = number; n = n; l = l }))
-      × (outcome n l (listHeld l (takenAll lines (started list) .held)) lent ≡ ended n (rowsFor n l page (ownOf caught)) lent (answer.Page n (length (ownOf caught))) telling page)
+      × (outcome n l (listHeld l (takenAll lines (started list) .held)) lent
+      ≡ ended n l (rowsFor n l page (ownOf caught)) (inListOrder (rowsFor n l page (ownOf caught))) lent (answer.Page n (length (ownOf caught))) telling page)
   lines-2 enough = (
     page-expected number n l lines _ are good list,
     ap (λ (bytes : List ℕ). outcome n l bytes lent) (list-read number n l lines _ are good list) ∙ crossing-2 number n l page small s size b caught m most list room lent roomed enough,
@@ -71,7 +74,7 @@ module _ (number n l : ℕ) (small : number < 2 ^ 32) (s : shape n l ≡ true)
     (p q : List ℕ) (sp : length p ≡ n * l) (sq : length q ≡ n * l) (bp : Below 256 p) (bq : Below 256 q)
     (caught : List (Caught Take)) (m : Mixed number n l (IsTake l) caught) (first : OwnFirst caught) (most : length (ownOf caught) ≤ 512)
     (lines-p lines-q : List (List ℕ)) (are-p : framesIn lines-p ≡ framesOf (taken number n l p) caught) (are-q : framesIn lines-q ≡ framesOf (taken number n l q) caught)
-    (list : List ℕ) (room : rowBytes l * length (ownOf caught) ≤ length list) (lent : Lent) (roomed : roomy n l (length (ownOf caught)) lent ≡ true) where
+    (list : List ℕ) (room : listRowBytes l * length (ownOf caught) ≤ length list) (lent : Lent) (roomed : roomy n l (length (ownOf caught)) lent ≡ true) where
   pub lines-3 : (takenAll lines-p (started list) .expected ≡ Only (record { number = number; n = n; l = l }))
       × (takenAll lines-q (started list) .expected ≡ Only (record { number = number; n = n; l = l }))
       × (outcome n l (listHeld l (takenAll lines-q (started list) .held)) lent ≡ added (xorBytes p q) (outcome n l (listHeld l (takenAll lines-p (started list) .held)) lent))

@@ -1,7 +1,11 @@
-pub mod Written
+pub mod Once
+pub mod Places
 pub mod Offers
 pub mod OtherHolds
 pub mod KeptHolds
 pub mod Holding
 pub mod EmptyHolds
+pub mod Stays
 pub mod EachHolds
+pub mod Listed
+pub mod Tells

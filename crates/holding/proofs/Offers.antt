@@ -1,4 +1,4 @@
--- A row offered to a state that holds others: the pass in bytes is Algorithm 2's, and what fits.
+-- One arrival more, offered to a state that holds what an order takes: the pass of its row in bytes is Algorithm 2's, and what fits.
 -- Assumes nothing.
 use mathlib.Core.Path.{_≡_, sym, ap, ap₂, _∙_}
 use mathlib.Core.Bool.{not}
@@ -7,29 +7,38 @@ use Prim.Native.Nat.{ℕ, suc, _+_, _*_, _^_, _≤_, _<_}
 use native.Mathlib.Numerals.{add-one}
 use native.Mathlib.Omega.{arith}
 use lib.Dec.{ltb}
-use lib.ListN.{length, length-append}
+use lib.ListN.{length, getD, length-append}
 use Rattle.space.specs.Space.{spans}
 use Rattle.space.specs.Lists.{Below}
-use Rattle.space.proofs.Lists.{below-append}
-use Rattle.rows.specs.Rows.{rowBytes}
+use Rattle.space.proofs.Lists.{below-map, below-append}
+use Rattle.rows.specs.Rows.{rowBytes, vector}
+use Rattle.rows.proofs.Lists.{vector-lt}
 use Rattle.reading.specs.Reading.{keptRows, rank, uses}
+use Rattle.reading.specs.Orders.{taken}
 use Rattle.reading.proofs.Pick.{length-uses}
 use Rattle.basis.specs.Algorithm2.{Pass, pass, Working, step, algorithm2}
-use Rattle.echelon.specs.State.{tailDigits, passIn, taken, absorption}
-use Rattle.holding.specs.Holds.{Holds}
+use Rattle.absorb.specs.Absorbing as absorbing
+use Rattle.absorb.specs.Absorbing.{tailDigits, passIn, absorption}
+use Rattle.holding.specs.Holds.{Offer}
 use Rattle.basis.proofs.Model.{Right, step-right, algorithm2-right, algorithm2-snoc, rank-most, rank-room, step-test}
 use Rattle.basis.proofs.Elimination.{rows-lt}
-use Rattle.echelon.proofs.Places.{sizes, tail-size}
-use Rattle.echelon.proofs.Absorbing.{Takes, takes-when, absorbed-so}
+use Rattle.state.proofs.Sizes.{sizes}
+use Rattle.absorb.proofs.Passing.{tail-size}
+use Rattle.absorb.proofs.Absorbing.{Takes, takes-when, absorbed-so}
 
-pub record Offer (l : ℕ) (rows : List ℕ) (row : ℕ) (state : List ℕ) : Type 0 where
-  pub holds : Holds l rows state
-  pub more : length rows < 512
-  pub small : row < 2 ^ (8 * rowBytes l)
+pub taken-below : (l : ℕ) (entries order : List ℕ) → Below (2 ^ (8 * rowBytes l)) (taken l entries order)
+unfolding taken
+taken-below l entries order = below-map (2 ^ (8 * rowBytes l)) (λ a. vector l (getD entries a 0)) (λ a. vector-lt l (getD entries a 0)) order
 
-module _ {l : ℕ} {rows : List ℕ} {row : ℕ} {state : List ℕ} (O : Offer l rows row state) where
+module _ {l : ℕ} {entries order : List ℕ} {arrival : ℕ} {state : List ℕ} (O : Offer l entries order arrival state) where
   abbrev pub key : ℕ
   key = rowBytes l
+
+  abbrev pub rows : List ℕ
+  rows = taken l entries order
+
+  abbrev pub row : ℕ
+  row = vector l (getD entries arrival 0)
 
   abbrev pub before : Working
   before = algorithm2 (tailDigits key) (8 * key) rows
@@ -44,11 +53,14 @@ module _ {l : ℕ} {rows : List ℕ} {row : ℕ} {state : List ℕ} (O : Offer l
   pub wide : 8 * key ≤ tailDigits key
   wide = omega (arith, sizes, narrow, tail-size key narrow)
 
+  pub below : Below (2 ^ (8 * key)) rows
+  below = taken-below l entries order
+
   pub right : Right (tailDigits key) (8 * key) rows before
-  right = algorithm2-right (tailDigits key) (8 * key) wide rows (O .holds .below)
+  right = algorithm2-right (tailDigits key) (8 * key) wide rows below
 
   pub all-below : Below (2 ^ (8 * key)) (rows ++ (row ∷ []))
-  all-below = below-append (2 ^ (8 * key)) rows (row ∷ []) (O .holds .below) (O .small, tt)
+  all-below = below-append (2 ^ (8 * key)) rows (row ∷ []) below (vector-lt l (getD entries arrival 0), tt)
 
   pub next : Right (tailDigits key) (8 * key) (rows ++ (row ∷ [])) (step (tailDigits key) row before)
   next = step-right (tailDigits key) (8 * key) wide rows row all-below before right
@@ -60,20 +72,20 @@ module _ {l : ℕ} {rows : List ℕ} {row : ℕ} {state : List ℕ} (O : Offer l
   pub ranked : length (before .uses) ≡ rank rows
   ranked = ap length (right .uses) ∙ length-uses rows
 
-  pub fits : Takes key (length rows) (rank rows) (length state)
+  pub fits : Takes key arrival (rank rows) (length state)
   fits = record {
     low = omega (arith, O .holds .some);
     high = narrow;
-    arrival = O .more;
-    rank = omega (arith, sizes, O .holds .most, rank-most (8 * key) rows (O .holds .below));
+    arrival = omega (arith, O .inside, O .holds .many);
+    rank = omega (arith, sizes, O .holds .most, rank-most (8 * key) rows below);
     whole = O .holds .room;
   }
 
-  pub outcome : taken key p (length rows) (rank rows) state ≡ absorption key row (length rows) (rank rows) state
-  outcome = absorbed-so key row (length rows) (rank rows) state (takes-when key (length rows) (rank rows) (length state) fits)
+  pub outcome : absorbing.taken key p arrival (rank rows) state ≡ absorption key row arrival (rank rows) state
+  outcome = absorbed-so key row arrival (rank rows) state (takes-when key arrival (rank rows) (length state) fits)
 
-  pub longer : length (rows ++ (row ∷ [])) ≡ suc (length rows)
-  longer = length-append rows (row ∷ []) ∙ add-one (length rows)
+  pub longer : length (order ++ (arrival ∷ [])) ≡ suc (length order)
+  longer = length-append order (arrival ∷ []) ∙ add-one (length order)
 
   pub slots-next : algorithm2 (tailDigits key) (8 * key) (rows ++ (row ∷ [])) .slots ≡ step (tailDigits key) row before .slots
   slots-next = ap (λ (s : Working). s .slots) (algorithm2-snoc (tailDigits key) (8 * key) rows row)
@@ -84,14 +96,14 @@ module _ {l : ℕ} {rows : List ℕ} {row : ℕ} {state : List ℕ} (O : Offer l
       ∙ step-test (tailDigits key) (8 * key) wide rows row all-below before right
 
   -- where it stops, what is left has no more digits than a row and a tail
-  pub vector-lt : p .stop < 8 * key → p .vector < 2 ^ (tailDigits key + 8 * key)
-  vector-lt h =
+  pub left-lt : p .stop < 8 * key → p .vector < 2 ^ (tailDigits key + 8 * key)
+  left-lt h =
       let size : length (before .slots) ≡ 8 * key = right .size in
       let stop : pass (tailDigits key) (before .slots) (row * 2 ^ tailDigits key) .stop < length (before .slots) = omega (arith, ap (λ (q : Pass). q .stop) pass-is, size, h) in
-      let kept-room : length (keptRows rows) ≤ tailDigits key = omega (arith, wide, rank-room (8 * key) rows (O .holds .below)) in
+      let kept-room : length (keptRows rows) ≤ tailDigits key = omega (arith, wide, rank-room (8 * key) rows below) in
       omega (
         arith,
-        rows-lt (tailDigits key) (keptRows rows) (before .slots) kept-room (right .slots) row (rw size (O .small)) stop,
+        rows-lt (tailDigits key) (keptRows rows) (before .slots) kept-room (right .slots) row (rw size (vector-lt l (getD entries arrival 0))) stop,
         ap (λ (q : Pass). q .vector) pass-is,
         ap (λ (n : ℕ). 2 ^ (tailDigits key + n)) size,
       )

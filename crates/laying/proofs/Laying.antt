@@ -9,7 +9,7 @@ use lib.ListN.{length, take, drop}
 use borrow.Author.Tests.{lt-ltb, le-ltb, eq-eqb, eqb-false}
 use Rattle.octets.specs.Octets.{bytes}
 use Rattle.octets.proofs.Lay.{part-lay}
-use Rattle.rows.specs.Rows.{shape, rowBytes}
+use Rattle.rows.specs.Rows.{shape, listRowBytes}
 use Rattle.draw.specs.Draw.{constraint}
 use Rattle.laying.specs.declared.Laid.the-variants.{Row, Shape, Refused, OtherPage, Full, Room}
 use Rattle.frame.specs.declared.Frame.{Frame}
@@ -28,11 +28,11 @@ module _ (l arrival : ℕ) (list : List ℕ) where
   placing-full h = rw (lt-ltb 511 arrival h)
 
   module _ (few : arrival ≤ 511) where
-    pub placing-room : length list < rowBytes l * arrival + rowBytes l → placing l arrival list ≡ Room
+    pub placing-room : length list < listRowBytes l * arrival + listRowBytes l → placing l arrival list ≡ Room
     unfolding placing
     placing-room h = rw (le-ltb 511 arrival few, lt-ltb _ _ h)
 
-    pub placing-row : rowBytes l * arrival + rowBytes l ≤ length list → placing l arrival list ≡ Row
+    pub placing-row : listRowBytes l * arrival + listRowBytes l ≤ length list → placing l arrival list ≡ Row
     unfolding placing
     placing-row h = rw (le-ltb 511 arrival few, le-ltb _ _ h)
 
@@ -79,7 +79,7 @@ pub laid-zero : (frame : List ℕ) (page n l arrival : ℕ) (list : List ℕ) �
 unfolding laid placing
 laid-zero frame page n l arrival list z =
     let through = past (shape n l) (isGood (reading frame)) (samePage (reading frame) page n l) (reading frame) (placing l arrival list) refl z in
-    through ∙ placed-row (ltb 511 arrival) (ltb (length list) (rowBytes l * arrival + rowBytes l)) (ap numberOf (sym through) ∙ z)
+    through ∙ placed-row (ltb 511 arrival) (ltb (length list) (listRowBytes l * arrival + listRowBytes l)) (ap numberOf (sym through) ∙ z)
 
 -- ---- the row
 
@@ -88,7 +88,7 @@ unfolding frameRow frameNumbers
 row-is frame p n l seed g = rw g
 
 -- a row that was laid is there
-pub laid-there : (l arrival : ℕ) (row list : List ℕ) → length row ≡ rowBytes l → rowBytes l * arrival ≤ length list
-    → take (rowBytes l) (drop (rowBytes l * arrival) (listAfter Row (rowBytes l * arrival) row list)) ≡ row
+pub laid-there : (l arrival : ℕ) (row list : List ℕ) → length row ≡ listRowBytes l → listRowBytes l * arrival ≤ length list
+    → take (listRowBytes l) (drop (listRowBytes l * arrival) (listAfter Row (listRowBytes l * arrival) row list)) ≡ row
 unfolding listAfter
-laid-there l arrival row list e h = part-lay (rowBytes l * arrival) (rowBytes l) row list e h
+laid-there l arrival row list e h = part-lay (listRowBytes l * arrival) (listRowBytes l) row list e h

@@ -7,7 +7,7 @@ use lib.Dec.{eqb, ltb}
 use lib.ListN.{length}
 use Rattle.octets.specs.Octets.{bytes}
 use Rattle.octets.specs.Octets as octets
-use Rattle.rows.specs.Rows.{shape, rowBytes}
+use Rattle.rows.specs.Rows.{shape, listRowBytes}
 use Rattle.draw.specs.Draw.{constraint}
 use Rattle.frame.specs.declared.Frame.{Frame}
 use Rattle.laying.specs.declared.Laid.{Laid}
@@ -44,7 +44,7 @@ samePage f page n l = eqb (frames.frameNumbers f .page) page && (eqb (frames.fra
 unfoldable pub placing : ℕ → ℕ → List ℕ → Laid
 placing l arrival list =
     cond (ltb 511 arrival) Full
-    (cond (ltb (length list) (rowBytes l * arrival + rowBytes l)) Room
+    (cond (ltb (length list) (listRowBytes l * arrival + listRowBytes l)) Room
     Row)
 
 -- "Order: 1; the frame's 11 to 15; 16 ..; 2 ..; 3 ..".

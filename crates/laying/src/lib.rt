@@ -5,7 +5,7 @@ ghost use mathlib.Core.Bool.{true};
 ghost use mathlib.Core.List.{_++_};
 ghost use lib.ListN.{length};
 ghost use Rattle.octets.specs.Octets.{bytes};
-ghost use Rattle.rows.specs.Rows.{shape, rowBytes};
+ghost use Rattle.rows.specs.Rows.{shape, listRowBytes};
 ghost use Rattle.draw.specs.Draw.{constraint};
 ghost use Rattle.frame.specs.Numbers.{payloadOf};
 ghost use Rattle.laying.specs.Laying.{placing, laid, frameRow, listAfter, toldBy};
@@ -45,13 +45,13 @@ fn put_row(row: &mut [u8], constraint: u64, payload: &[u8])
 fn lay_row(frame: &[u8], n: u8, l: u8, seed: u32, arrival: Arrival, list: &mut [u8]) -> Laid
     requires { ⌜ (shape n l ≡ true) × (length (payloadOf (now frame)) ≡ l) ⌝ }
     ensures answer { λ r. ⌜ r ≡ placing l (arrival .0) (now (list .entry)) ⌝ }
-    ensures list { λ r. ⌜ now (list .exit) ≡ listAfter r (rowBytes l * arrival .0) (bytes 8 (constraint n seed) ++ payloadOf (now (frame .entry))) (now (list .entry)) ⌝ }
+    ensures list { λ r. ⌜ now (list .exit) ≡ listAfter r (listRowBytes l * arrival .0) (bytes 8 (constraint n seed) ++ payloadOf (now (frame .entry))) (now (list .entry)) ⌝ }
 {
     let at = arrival.0;
     if LAST_ARRIVAL < at {
         return Laid::Full;
     }
-    let size = 8 + l as usize;
+    let size = rows::stride(l);
     let start = size * at;
     let end = start + size;
     if list.len() < end {
@@ -69,7 +69,7 @@ fn lay_row(frame: &[u8], n: u8, l: u8, seed: u32, arrival: Arrival, list: &mut [
 // Lays the row of a frame of the expected page into the list, at the arrival number.
 pub fn lay(frame: &[u8], page_number: u32, n: u8, l: u8, arrival: Arrival, list: &mut [u8]) -> Laid
     ensures answer { λ r. ⌜ r ≡ laid (now (frame .entry)) «page_number» n l (arrival .0) (now (list .entry)) ⌝ }
-    ensures list { λ r. ⌜ now (list .exit) ≡ listAfter r (rowBytes l * arrival .0) (frameRow (now (frame .entry))) (now (list .entry)) ⌝ }
+    ensures list { λ r. ⌜ now (list .exit) ≡ listAfter r (listRowBytes l * arrival .0) (frameRow (now (frame .entry))) (now (list .entry)) ⌝ }
 {
     if !rows::shaped(n, l) {
         return Laid::Shape;

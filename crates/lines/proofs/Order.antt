@@ -6,7 +6,7 @@ use mathlib.Core.Bool.{true, false}
 use mathlib.Core.List.{List}
 use lib.ListN.{length}
 use Rattle.octets.specs.Octets.{lay}
-use Rattle.rows.specs.Rows.{shape, rowBytes}
+use Rattle.rows.specs.Rows.{shape, listRowBytes}
 use Rattle.frame.specs.declared.Frame.the-variants as frames
 use Rattle.laying.specs.declared.Laid.{Laid}
 use Rattle.laying.specs.declared.Laid.the-variants as laid
@@ -42,14 +42,14 @@ module _ (line : List ℕ) (sheet : Sheet) (list : List ℕ) where
           → takeLine line sheet list
           ≡ takenAs (result (laying.numberOf answer) (laying.placeOf answer))
           (record { expected = Only page; rows = rowsAfter (result (laying.numberOf answer) (laying.placeOf answer)) (sheet .rows) })
-          (laying.listAfter answer (rowBytes (page .l) * sheet .rows) (laying.frameRow (pairs line)) list)
+          (laying.listAfter answer (listRowBytes (page .l) * sheet .rows) (laying.frameRow (pairs line)) list)
       unfolding layOn
       laid-as page e answer a = on page e ∙ rw a
 
       -- "The first good frame sets the expected page number, n and L", and its row is laid.
-      module _ (fresh : sheet .expected ≡ Nothing) (few : sheet .rows ≤ 511) (room : rowBytes l * sheet .rows + rowBytes l ≤ length list) where
+      module _ (fresh : sheet .expected ≡ Nothing) (few : sheet .rows ≤ 511) (room : listRowBytes l * sheet .rows + listRowBytes l ≤ length list) where
         pub first-good : takeLine line sheet list
-            ≡ takenAs Row (record { expected = Only (record { number = p; n = n; l = l }); rows = sheet .rows + 1 }) (lay (rowBytes l * sheet .rows) (laying.frameRow (pairs line)) list)
+            ≡ takenAs Row (record { expected = Only (record { number = p; n = n; l = l }); rows = sheet .rows + 1 }) (lay (listRowBytes l * sheet .rows) (laying.frameRow (pairs line)) list)
         unfolding expecting laying.numberOf laying.placeOf laying.listAfter result rowsAfter
         first-good =
             laid-as (record { number = p; n = n; l = l }) (rw fresh) laid.Row
@@ -80,8 +80,8 @@ module _ (line : List ℕ) (sheet : Sheet) (list : List ℕ) where
           unfolding laying.numberOf laying.placeOf laying.listAfter result rowsAfter
           gives-2 h = laid-as page expected laid.Full (placed ∙ placing-full (page .l) (sheet .rows) list h) ∙ ap (λ t. takenAs (Refused 2 0) t list) same
 
-          pub gives-row : sheet .rows ≤ 511 → rowBytes (page .l) * sheet .rows + rowBytes (page .l) ≤ length list
+          pub gives-row : sheet .rows ≤ 511 → listRowBytes (page .l) * sheet .rows + listRowBytes (page .l) ≤ length list
               → takeLine line sheet list
-              ≡ takenAs Row (record { expected = Only page; rows = sheet .rows + 1 }) (lay (rowBytes (page .l) * sheet .rows) (laying.frameRow (pairs line)) list)
+              ≡ takenAs Row (record { expected = Only page; rows = sheet .rows + 1 }) (lay (listRowBytes (page .l) * sheet .rows) (laying.frameRow (pairs line)) list)
           unfolding laying.numberOf laying.placeOf laying.listAfter result rowsAfter
           gives-row few room = laid-as page expected laid.Row (placed ∙ placing-row (page .l) (sheet .rows) list few room)

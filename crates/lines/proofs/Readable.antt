@@ -6,7 +6,7 @@ use native.Mathlib.Nat.{mul-le-mul}
 use native.Mathlib.Omega.{arith}
 use mathlib.Core.Bool.{Bool, true, false, cond}
 use mathlib.Core.List.{List}
-use Rattle.rows.specs.Rows.{shape, rowBytes}
+use Rattle.rows.specs.Rows.{shape, listRowBytes}
 use Rattle.rows.proofs.Shape.{shape-range}
 use Rattle.frame.specs.declared.Frame.{Frame}
 use Rattle.frame.specs.Reading.{reading, good}
@@ -82,9 +82,9 @@ module _ (sheet : Sheet) (able : Readable sheet) (page : Page) (is : sheet .expe
   page-shaped = rw is at (able .shaped)
 
   -- the rows fit into a list of 512 rows of 40 bytes
-  pub rows-fit : sheet .rows * rowBytes (page .l) ≤ 20480
+  pub rows-fit : sheet .rows * listRowBytes (page .l) ≤ 20480
   rows-fit =
-      let narrow : rowBytes (page .l) ≤ 40 = omega (arith, shape-range (page .n) (page .l) page-shaped .l-high) in
+      let narrow : listRowBytes (page .l) ≤ 40 = omega (arith, shape-range (page .n) (page .l) page-shaped .l-high) in
       mul-le-mul (able .few) narrow
 
   pub page-fits : page .n * page .l ≤ 2048

@@ -9,7 +9,7 @@ use mathlib.Core.List.{List}
 use lib.Dec.{eqb, leb, ltb}
 use lib.ListN.{length}
 use borrow.Author.Tests.{le-ltb, ltb-false}
-use Rattle.rows.specs.Rows.{shape, rowBytes}
+use Rattle.rows.specs.Rows.{shape, listRowBytes}
 use Rattle.rows.proofs.Shape.{shape-range}
 use Rattle.frame.specs.declared.Frame.{Frame}
 use Rattle.frame.specs.declared.Frame.the-variants as frames
@@ -41,9 +41,9 @@ refusal-listed frames.OutOfRange e = refl
 refusal-listed (frames.Trailing place) e = refl
 
 -- there is room for each of 512 rows
-one-more : (n l rows : ℕ) → shape n l ≡ true → rows ≤ 511 → rowBytes l * rows + rowBytes l ≤ 20480
+one-more : (n l rows : ℕ) → shape n l ≡ true → rows ≤ 511 → listRowBytes l * rows + listRowBytes l ≤ 20480
 one-more n l rows s h =
-    let narrow : rowBytes l ≤ 40 = omega (arith, shape-range n l s .l-high) in
+    let narrow : listRowBytes l ≤ 40 = omega (arith, shape-range n l s .l-high) in
     omega (arith, mul-le-mul narrow h)
 
 abbrev told : Laid → Line
@@ -55,9 +55,9 @@ module _ (list : List ℕ) (room : 20480 ≤ length list) where
   placing-listed n l rows s = go (ltb 511 rows) refl
     where
       go : (t : Bool) → ltb 511 rows ≡ t
-          → listed (told (cond t laid.Full (cond (ltb (length list) (rowBytes l * rows + rowBytes l)) laid.Room laid.Row))) ≡ true
+          → listed (told (cond t laid.Full (cond (ltb (length list) (listRowBytes l * rows + listRowBytes l)) laid.Room laid.Row))) ≡ true
       go true e = refl
-      go false e = rw (le-ltb (length list) (rowBytes l * rows + rowBytes l) (le-trans (one-more n l rows s (ltb-false 511 rows e)) room))
+      go false e = rw (le-ltb (length list) (listRowBytes l * rows + listRowBytes l) (le-trans (one-more n l rows s (ltb-false 511 rows e)) room))
 
   lay-listed : (page : Page) (frame : List ℕ) (rows : ℕ) → shape (page .n) (page .l) ≡ true → isGood (reading frame) ≡ true
       → listed (layOn page frame rows list .taken .line) ≡ true

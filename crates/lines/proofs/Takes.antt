@@ -8,7 +8,7 @@ use mathlib.Core.List.{List}
 use lib.Dec.{eqb, ltb}
 use lib.ListN.{length}
 use borrow.Author.Tests.{eqb-true, eqb-false, ltb-false}
-use Rattle.rows.specs.Rows.{shape, rowBytes}
+use Rattle.rows.specs.Rows.{shape, listRowBytes}
 use Rattle.frame.specs.declared.Frame.{Frame}
 use Rattle.frame.specs.declared.Frame.the-variants as frames
 use Rattle.laying.specs.declared.Laid.{Laid}
@@ -46,7 +46,7 @@ module _ (page : Page) (frame : List ℕ) (rows : ℕ) (list : List ℕ) where
 
   -- laying, its result and the rows after it
   pub lays : (answer : Laid) → answer ≡ answered → (line : Line) → line ≡ result (laying.numberOf answer) (laying.placeOf answer)
-      → (more : ℕ) → more ≡ rowsAfter line rows → (after : List ℕ) → after ≡ laying.listAfter answer (rowBytes (page .l) * rows) (laying.frameRow frame) list
+      → (more : ℕ) → more ≡ rowsAfter line rows → (after : List ℕ) → after ≡ laying.listAfter answer (listRowBytes (page .l) * rows) (laying.frameRow frame) list
       → takenAs line (record { expected = Only page; rows = more }) after ≡ layOn page frame rows list
   unfolding layOn
   lays answer a line e more m after l = rw (l, m, e, a)
@@ -56,7 +56,7 @@ module _ (page : Page) (frame : List ℕ) (rows : ℕ) (list : List ℕ) where
   unfolding laying.laid laying.placing laying.numberOf
   laid-within e =
       go (shape (page .n) (page .l)) (isGood found) refl (laying.samePage found (page .number) (page .n) (page .l)) (ltb 511 rows) refl
-      (ltb (length list) (rowBytes (page .l) * rows + rowBytes (page .l))) e
+      (ltb (length list) (listRowBytes (page .l) * rows + listRowBytes (page .l))) e
     where
       found : Frame
       found = reading frame

@@ -3,7 +3,7 @@ use Prim.Native.Nat.{ℕ, _+_, _*_}
 use mathlib.Core.Bool.{cond}
 use mathlib.Core.List.{List}
 use lib.Dec.{eqb}
-use Rattle.rows.specs.Rows.{rowBytes}
+use Rattle.rows.specs.Rows.{listRowBytes}
 use Rattle.frame.specs.declared.Frame.{Frame}
 use Rattle.frame.specs.Reading.{reading}
 use Rattle.frame.specs.Numbers.{frameNumbers, numberOf, placeOf}
@@ -50,7 +50,7 @@ layOn page frame rows list =
     let answer = laying.laid frame (page .number) (page .n) (page .l) rows list in
     let line = result (laying.numberOf answer) (laying.placeOf answer) in
     takenAs line (record { expected = Only page; rows = rowsAfter line rows })
-    (laying.listAfter answer (rowBytes (page .l) * rows) (laying.frameRow frame) list)
+    (laying.listAfter answer (listRowBytes (page .l) * rows) (laying.frameRow frame) list)
 
 -- ---- a line
 

@@ -158,7 +158,7 @@ fn report(sheet: Sheet, list: &[u8])
         print::no_page();
         return;
     };
-    let end = sheet.rows * (8 + page.l as usize);
+    let end = sheet.rows * rows::stride(page.l);
     read_rows(page, sheet.rows, &list[..end]);
 }
 

@@ -5,6 +5,7 @@ use libc::STDOUT_FILENO;
 use lines::Line;
 use lines::Page;
 use reading::Answer;
+use reading::Numbers;
 use text::Spelled;
 
 // Puts words behind the first `at` characters, as far as there is room, and gives where they end.
@@ -34,17 +35,22 @@ fn write(text: &[u8], end: usize)
     io::write_all(STDOUT_FILENO, &text[..end]);
 }
 
+fn put_refused(text: &mut [u8], at: usize, number: u8, place: usize) -> usize
+    requires { ⌜ at ≤ length (now text) ⌝ }
+    ensures { λ r. ⌜ r ≤ length (now (text .entry)) ⌝ }
+{
+    let next = put_number(text, at, b" refused ", number as u64);
+    let end = put_number(text, next, b" at ", place as u64);
+    put(text, end, b"\n")
+}
+
 fn put_line(text: &mut [u8], at: usize, line: Line) -> usize
     requires { ⌜ at ≤ length (now text) ⌝ }
     ensures { λ r. ⌜ r ≤ length (now (text .entry)) ⌝ }
 {
     match line {
         Line::Row => put(text, at, b" row\n"),
-        Line::Refused(number, place) => {
-            let next = put_number(text, at, b" refused ", number as u64);
-            let end = put_number(text, next, b" at ", place as u64);
-            put(text, end, b"\n")
-        }
+        Line::Refused(number, place) => put_refused(text, at, number, place),
     }
 }
 
@@ -56,19 +62,32 @@ pub(crate) fn result(number: u64, line: Line) {
     write(&text, end);
 }
 
+fn put_page(text: &mut [u8], page: Page, rows: usize) -> usize
+    ensures { λ r. ⌜ r ≤ length (now (text .entry)) ⌝ }
+{
+    let number = put_number(text, 0, b"page ", page.number as u64);
+    let symbols = put_number(text, number, b" symbols ", page.n as u64);
+    let bytes = put_number(text, symbols, b" bytes ", page.l as u64);
+    put_number(text, bytes, b" rows ", rows as u64)
+}
+
+fn put_answer(text: &mut [u8], at: usize, numbers: Numbers) -> usize
+    requires { ⌜ at ≤ length (now text) ⌝ }
+    ensures { λ r. ⌜ r ≤ length (now (text .entry)) ⌝ }
+{
+    let kept = put_number(text, at, b" kept ", numbers.rank as u64);
+    let answer = put_number(text, kept, b" answer ", numbers.number as u64);
+    let agree = put_number(text, answer, b" agree ", numbers.agreement as u64);
+    put(text, agree, b"\n")
+}
+
 // "The page line gives page number, n, L, rows laid, rank, answer number, agreement."
 pub(crate) fn answer(page: Page, rows: usize, answer: Answer) {
     let numbers = reading::numbers_of(answer);
     let mut text = [0u8; 256];
-    let mut at = put_number(&mut text, 0, b"page ", page.number as u64);
-    at = put_number(&mut text, at, b" symbols ", page.n as u64);
-    at = put_number(&mut text, at, b" bytes ", page.l as u64);
-    at = put_number(&mut text, at, b" rows ", rows as u64);
-    at = put_number(&mut text, at, b" kept ", numbers.rank as u64);
-    at = put_number(&mut text, at, b" answer ", numbers.number as u64);
-    at = put_number(&mut text, at, b" agree ", numbers.agreement as u64);
-    at = put(&mut text, at, b"\n");
-    write(&text, at);
+    let at = put_page(&mut text, page, rows);
+    let end = put_answer(&mut text, at, numbers);
+    write(&text, end);
 }
 
 // "The page follows in lower-case hexadecimal".

@@ -1,4 +1,2 @@
 pub mod Turned
-pub mod AtArrival
-pub mod OneMore
 pub mod Settled

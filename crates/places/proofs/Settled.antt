@@ -1,13 +1,8 @@
 -- Each contract of this crate settles the result and every lent byte.
 -- Assumes nothing.
-use mathlib.Core.Path.{_≡_, sym, ap, ap₂, _∙_}
-use contract.Lifetimes.{Lfts}
-use denote.Ref.{now, ptr}
-use borrow.Fn.Kinds.{Dens}
-use Rattle.octets.specs.Settles.{Outcome, Allowed, Settles}
+use mathlib.Core.Path.{ap, ap₂}
+use Rattle.octets.specs.Settles.{Settles}
 use Rattle.octets.proofs.Unique.{unique}
-use Rattle.places.proofs.row.Kinds as row
-use Rattle.places.proofs.row.Reads as row-contract
 use Rattle.places.proofs.give.Kinds as give
 use Rattle.places.proofs.give.Reads as give-contract
 use Rattle.places.proofs.give_none.Kinds as give-none
@@ -38,14 +33,3 @@ no-uses-settled κs args = unique (λ o is. ap (λ v. (tt, (v, (tt, tt)))) is)
 
 pub name-settled : Settles name.ps name.r name-contract.Post
 name-settled κs args = unique (λ o is. ap (λ v. (tt, (v, (tt, tt)))) is)
-
--- Where the part that `row` hands back points, and what it shows.
-module _ (κs : Lfts 1) (args : Dens κs row.ps) where
-  abbrev pub Part : Type 0
-  Part = Outcome row.ps row.r row-contract.Post κs args
-
-  abbrev pub Right : Part → Type 0
-  Right = Allowed row.ps row.r row-contract.Post κs args
-
-  pub row-settled : (o p : Part) → Right o → Right p → (ptr (o .0) ≡ ptr (p .0)) × (now (o .0) ≡ now (p .0))
-  row-settled o p is so = (is .1 ∙ sym (so .1), is .0 ∙ sym (so .0))

@@ -2,8 +2,7 @@
 ghost use mathlib.Core.Path.{_≡_};
 ghost use Prim.Native.Nat.{_+_, _%_};
 ghost use Rattle.doubles.specs.Doubles.{pairAt, putPair};
-ghost use lib.ListN.{take, drop};
-ghost use Rattle.places.specs.Places.{offsetAt, sizeAt, givenBy, named};
+ghost use Rattle.places.specs.Places.{givenBy, named};
 
 // The place of a row in a list, from 0.
 pub struct Arrival(pub usize);
@@ -11,36 +10,13 @@ pub struct Arrival(pub usize);
 // The place of a kept row among the kept rows, from 0. Only `give` and `given` make one, and only this crate looks into it.
 pub struct KeptPlace(usize);
 
-// The most rows of a list, and the most bytes of a row: 8 for the constraint, and up to 32.
+// The most rows of a list.
 pub const MOST_ROWS: usize = 512;
-
-const WIDEST: usize = 40;
 
 // What an arrival was given.
 pub enum Lookup {
     Place(KeptPlace),
     Nothing,
-}
-
-// ---- what stands at an arrival
-
-// The row of w bytes at an arrival, as that part of the list itself; the empty part at its start where there is none.
-pub fn row(list: &[u8], w: usize, arrival: Arrival) -> &[u8]
-    ensures shows { λ r. ⌜ now r ≡ take (sizeAt w (arrival .0) (now (list .entry))) (drop (offsetAt w (arrival .0) (now (list .entry))) (now (list .entry))) ⌝ }
-    ensures points { λ r. ⌜ r .ptr ≡ (list .entry .ptr .0, offsetAt w (arrival .0) (now (list .entry)) + list .entry .ptr .1) ⌝ }
-{
-    if WIDEST < w {
-        return &list[..0];
-    }
-    if MOST_ROWS <= arrival.0 {
-        return &list[..0];
-    }
-    let at = arrival.0 * w;
-    let end = at + w;
-    if list.len() < end {
-        return &list[..0];
-    }
-    &list[at..end]
 }
 
 // ---- the kept places of arrivals, in two bytes each: place + 1, or 0

@@ -1,4 +1,3 @@
-pub mod Sifting
-pub mod Finishing
-pub mod Ending
+pub mod Rows
+pub mod Ends
 pub mod Settled

@@ -1,2 +1,2 @@
-pub mod Sift
-pub mod Finish
+pub mod Reader
+pub mod Pairs

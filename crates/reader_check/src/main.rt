@@ -118,7 +118,7 @@ fn lay_rows(bytes: usize, list: &mut [u8])
 fn edge_in(list: &mut [u8], n: u8, l: u8, r: Rooms)
     requires { ⌜ (1 ≤ l) × (r .page ≤ 2048) × (r .marks ≤ 513) × (r .roles ≤ 513) × (r .scratch ≤ 32769) ⌝ }
 {
-    lay_rows(8 + l as usize, list);
+    lay_rows(rows::stride(l), list);
     read(n, l, list, r);
 }
 

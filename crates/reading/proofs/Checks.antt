@@ -13,7 +13,7 @@ use Rattle.space.specs.Lists.{Below}
 use Rattle.space.proofs.Both.{both}
 use Rattle.octets.specs.Octets.{flat}
 use Rattle.octets.proofs.Runs.{length-flat}
-use Rattle.rows.specs.Rows.{shape, rowBytes, rowCount, rowsOf, constraint}
+use Rattle.rows.specs.Rows.{shape, listRowBytes, rowCount, rowsOf, constraint}
 use Rattle.rows.specs.Shift.{shifted, shiftedList}
 use Rattle.rows.proofs.Shifts.{shifted-constraint, rowCount-shiftedList, length-shiftedList, rows-shiftedList}
 use Rattle.reading.specs.declared.Answer.{Answer}
@@ -99,28 +99,28 @@ none-stray n l i [] b = refl
 none-stray n l i (r ∷ rows) b = rw (lt-leb (2 ^ n) (constraint l r) (b .0)) (none-stray n l (suc i) rows (b .1))
 
 -- a list of whole rows, 512 at most
-multiple : (l : ℕ) (list : List ℕ) → wholeRows l list ≡ true → length list % rowBytes l ≡ 0
+multiple : (l : ℕ) (list : List ℕ) → wholeRows l list ≡ true → length list % listRowBytes l ≡ 0
 unfolding wholeLength
-multiple l list e = eqb-true (length list % rowBytes l) 0 (both (eqb (length list % rowBytes l) 0) (leb (length list / rowBytes l) 512) e .0)
+multiple l list e = eqb-true (length list % listRowBytes l) 0 (both (eqb (length list % listRowBytes l) 0) (leb (length list / listRowBytes l) 512) e .0)
 
 pub most-512 : (l : ℕ) (list : List ℕ) → wholeRows l list ≡ true → rowCount l list ≤ 512
 unfolding wholeLength rowCount
-most-512 l list e = leb-true (length list / rowBytes l) 512 (both (eqb (length list % rowBytes l) 0) (leb (length list / rowBytes l) 512) e .1)
+most-512 l list e = leb-true (length list / listRowBytes l) 512 (both (eqb (length list % listRowBytes l) 0) (leb (length list / listRowBytes l) 512) e .1)
 
--- rows laid flat are whole
-pub flat-whole : (l : ℕ) (rows : List ℕ) → length rows ≤ 512 → wholeRows l (flat (rowBytes l) rows) ≡ true
+-- entries laid flat are whole
+pub flat-whole : (l : ℕ) (entries : List ℕ) → length entries ≤ 512 → wholeRows l (flat (listRowBytes l) entries) ≡ true
 unfolding wholeLength
-flat-whole l rows h =
-    let wide : 0 < 8 + l = omega arith in
-    rw (length-flat (8 + l) rows) (rw (mul-mod-left (length rows) (8 + l), mul-div-cancel (length rows) wide) (le-leb (length rows) 512 h))
+flat-whole l entries h =
+    let wide : 0 < listRowBytes l = omega arith in
+    rw (length-flat (listRowBytes l) entries) (rw (mul-mod-left (length entries) (listRowBytes l), mul-div-cancel (length entries) wide) (le-leb (length entries) 512 h))
 
 module _ (n l : ℕ) (list : List ℕ) (lent : Lent) (p : Passed n l list lent) where
   pub inside : Below (2 ^ n) (map (constraint l) (rowsOf l list))
   inside = stray-none n l 0 (rowsOf l list) (p .clean)
 
-  pub whole : length list ≡ rowCount l list * rowBytes l
+  pub whole : length list ≡ rowCount l list * listRowBytes l
   unfolding rowCount
-  whole = omega (arith, div-add-mod' (length list) (8 + l), multiple l list (p .rowsWhole))
+  whole = omega (arith, div-add-mod' (length list) (listRowBytes l), multiple l list (p .rowsWhole))
 
   pub rows-most : rowCount l list ≤ 512
   rows-most = most-512 l list (p .rowsWhole)
@@ -136,5 +136,5 @@ module _ (n l : ℕ) (q : List ℕ) (b : Below (2 ^ (8 * l)) q) where
   pub checks-shifted : (list : List ℕ) (lent : Lent) → Passed n l list lent → Below 256 list → checks n l (shiftedList l q list) lent ≡ checks n l list lent
   unfolding checks wholeLength
   checks-shifted list lent p bytes =
-      rw (rowCount-shiftedList l q b list (whole n l list lent p) bytes) (rw (length-shiftedList l q b list (whole n l list lent p) bytes)
-      (rw (rows-shiftedList l q b list (whole n l list lent p) bytes) (rw (strayFrom-shifted 0 (rowsOf l list)))))
+      rw (rowCount-shiftedList l q b list) (rw (length-shiftedList l q b list (whole n l list lent p))
+      (rw (rows-shiftedList l q b list bytes) (rw (strayFrom-shifted 0 (rowsOf l list)))))

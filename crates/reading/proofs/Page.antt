@@ -16,8 +16,9 @@ use Rattle.space.proofs.Lists.{all-in, below-map-at, below-map, tabulate-is, ta
 use Rattle.space.proofs.Sets.{sum-lt, setOf-sum, setOf-unique, sum-setOf-⊕, setAt, length-setAt, sum-setAt}
 use Rattle.space.proofs.Dimension.{spans-all}
 use Rattle.space.proofs.Linear.{map-sum}
+use Rattle.space.proofs.SumBy.{sumBy-⊕, sumBy-unit, sumBy-bits}
 use Rattle.rows.specs.Rows.{constraint, payload, named, agrees}
-use Rattle.rows.proofs.Sums.{named-⊕, named-unit, named-bits, payload-lt}
+use Rattle.rows.proofs.Sums.{payload-lt}
 use Rattle.rows.proofs.Pages.{all-payloads, agree-independent}
 use Rattle.reading.specs.Reading.{symbol, pageOf, pickedRows, tie}
 use Rattle.reading.specs.Properties.{Agreed}
@@ -37,7 +38,7 @@ module _ (n l : ℕ) (ps : List ℕ) (inside : Below (2 ^ n) (map (constraint l)
 
   page-value : (c : ℕ) → c < 2 ^ n → named (pageOf n l ps) c ≡ value c
   unfolding pageOf symbol value
-  page-value c h = named-bits n value value-⊕ c h
+  page-value c h = sumBy-bits n value value-⊕ c h
 
   own-value : {r : ℕ} → List·Memᴰ r ps → value (constraint l r) ≡ payload l r
   unfolding value
@@ -60,8 +61,8 @@ module _ (n l : ℕ) (ps : List ℕ) (inside : Below (2 ^ n) (map (constraint l)
   pub unit-named : (page : List ℕ) → length page ≡ n → (k : ℕ) → k < n
       → sumOf (map (named page) (map (constraint l) ps)) (setOf (map (constraint l) ps) (2 ^ k)) ≡ getD page k 0
   unit-named page e k h =
-      map-sum (named page) (named-⊕ page) (map (constraint l) ps) (setOf (map (constraint l) ps) (2 ^ k))
-      ∙ ap (named page) (unit-sum k h) ∙ named-unit page k (omega arith)
+      map-sum (named page) (sumBy-⊕ page) (map (constraint l) ps) (setOf (map (constraint l) ps) (2 ^ k))
+      ∙ ap (named page) (unit-sum k h) ∙ sumBy-unit page k (omega arith)
 
   -- and with no other page
   pub page-unique : (page : List ℕ) → length page ≡ n → All (agrees l page) ps → pageOf n l ps ≡ page

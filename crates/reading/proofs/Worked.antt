@@ -7,14 +7,17 @@ use mathlib.Core.List.{List, [], _∷_, map, List·Memᴰ, List·Memᴰ·not-nil
 use mathlib.Core.Logic.{_⊎_, inl, inr}
 use lib.ListN.{length, length-map}
 use Rattle.space.specs.Lists.{select, marked, count, tabulate}
-use Rattle.space.specs.Space.{_⊕_, sumOf, spans, setOf, independent}
+use Rattle.space.specs.Space.{_⊕_, sumOf, sumBy, spans, setOf, independent}
 use Rattle.space.proofs.Both.{both}
 use Rattle.octets.specs.Octets.{number, bytes, numbers, flat, over}
-use Rattle.rows.specs.Rows.{shape, rowCount, rowsOf, constraint, payload, named, agrees}
+use Rattle.rows.specs.Rows.{shape, rowCount, entriesOf, vector, rowsOf, constraint, payload, agrees}
 use Rattle.rows.proofs.Lists.{rowCount-flat}
 use Rattle.reading.specs.Answer.{answerNumbers}
 use Rattle.reading.specs.Reading.{keptAfter, kept, keptRows, otherRows, rank, usesOf, uses, picks, picked, pickedRows, symbol, pageOf, agreement, few, tie, singular}
-use Rattle.reading.specs.Outcome.{Lent, wholeRows, roomy, strayFrom, checks, spread, usesMarks, rolesMarks, ended, solved, read, after, outcome, wholeLength}
+use Rattle.reading.specs.Orders.{arrivals, counts, taken, inListOrder}
+use Rattle.reading.specs.Marks.{valueOf, byArrival, keptArrivals, usesMarks, rolesMarks}
+use Rattle.reading.specs.Verdict.{verdict}
+use Rattle.reading.specs.Outcome.{Lent, wholeRows, roomy, strayFrom, checks, ended, told, read, after, outcomeIn, outcome, wholeLength}
 use Rattle.reading.specs.Worked.{Case, cases, listOf, Seen, seen, expected}
 
 -- the list of a case has whole rows, few enough
@@ -23,14 +26,14 @@ sound c = shape (c .n) 1 && wholeRows 1 (listOf c)
 
 -- and is read, once the room is known to be there
 run : Lent → Case → Seen
-run lent c = seen (after (strayFrom (c .n) 1 0 (rowsOf 1 (listOf c))) (c .n) 1 (rowsOf 1 (listOf c)) lent)
+run lent c = seen (after (strayFrom (c .n) 1 0 (rowsOf 1 (listOf c))) (c .n) 1 (entriesOf 1 (listOf c)) (inListOrder (entriesOf 1 (listOf c))) lent)
 
 all-sound : map sound cases ≡ map (λ c. true) cases
 unfolding sound shape wholeLength listOf rowCount flat bytes
 all-sound = refl
 
 computed : (lent : Lent) → map (run lent) cases ≡ map (expected lent) cases
-unfolding run expected seen listOf after strayFrom read ended solved answerNumbers usesMarks rolesMarks spread few tie singular agreement pageOf symbol pickedRows picked picks uses usesOf rank otherRows keptRows kept keptAfter rowsOf rowCount constraint payload named agrees number bytes numbers flat over select marked count tabulate sumOf spans setOf independent _⊕_
+unfolding run expected seen listOf after strayFrom read told ended verdict answerNumbers usesMarks rolesMarks keptArrivals byArrival valueOf taken inListOrder arrivals counts few tie singular agreement pageOf symbol pickedRows picked picks uses usesOf rank otherRows keptRows kept keptAfter rowsOf entriesOf vector rowCount constraint payload sumBy agrees number bytes numbers flat over select marked count tabulate sumOf spans setOf independent _⊕_
 computed lent = refl
 
 -- what holds of two tables holds of each case
@@ -44,7 +47,7 @@ each f g (x ∷ cs) e c m = go (List·Memᴰ·cases-cons m) (each f g cs (tail-e
 
 pub worked : (c : Case) → List·Memᴰ c cases → (lent : Lent) → roomy (c .n) 1 (length (c .rows)) lent ≡ true
     → seen (outcome (c .n) 1 (listOf c) lent) ≡ expected lent c
-unfolding outcome checks
+unfolding outcomeIn checks
 worked c m lent room =
     rw (both (shape (c .n) 1) (wholeRows 1 (listOf c)) fits .0) (rw (both (shape (c .n) 1) (wholeRows 1 (listOf c)) fits .1)
     (rw count (rw room (unfold run in each (run lent) (expected lent) cases (computed lent) c m))))

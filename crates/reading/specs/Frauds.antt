@@ -5,7 +5,7 @@ use mathlib.Core.Bool.{true}
 use mathlib.Core.List.{List}
 use lib.ListN.{length, take, replicate}
 use Rattle.octets.specs.Octets.{over}
-use Rattle.rows.specs.Rows.{symbols, rowBytes, rowCount}
+use Rattle.rows.specs.Rows.{symbols, listRowBytes, rowCount}
 use Rattle.rows.specs.Shift.{shiftedList}
 use Rattle.reading.specs.declared.Answer.{Answer}
 use Rattle.reading.specs.declared.Answer.the-variants as answer
@@ -73,7 +73,7 @@ fixedPage fixed n l list lent = withPage (over fixed (lent .page)) (outcome n l 
 
 -- "One that weighs the first row and pretends with the rest": they agree, it says.
 unfoldable pub firstRow : Reader
-firstRow n l list lent = withAnswer (agreeing (rowCount l list)) (outcome n l (take (rowBytes l) list) lent)
+firstRow n l list lent = withAnswer (agreeing (rowCount l list)) (outcome n l (take (listRowBytes l) list) lent)
 
 -- "or invents uses,": 0 for every row;
 unfoldable pub inventsUses : Reader

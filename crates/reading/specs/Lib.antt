@@ -1,4 +1,8 @@
 pub mod Reading
+pub mod Orders
+pub mod Marks
+pub mod Listed
+pub mod Verdict
 pub mod Properties
 pub mod Raised
 pub mod Answer

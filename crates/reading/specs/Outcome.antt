@@ -1,16 +1,19 @@
--- The whole outcome of a reading: its answer, and every lent buffer at exit. Document 01, "Answer numbers of a reading".
+-- The whole outcome of a reading, in any order of its rows: its answer, and every lent buffer at exit. Document 01, "Answer numbers of a reading".
 use Prim.Native.Nat.{ℕ, suc, _*_, _/_, _%_, _^_}
-use mathlib.Core.Bool.{Bool, true, false, cond, not, _&&_}
-use mathlib.Core.List.{List, [], _∷_, map}
+use mathlib.Core.Bool.{Bool, cond, not, _&&_}
+use mathlib.Core.List.{List, [], _∷_}
 use lib.Dec.{eqb, leb}
 use lib.ListN.{length, replicate}
 use Rattle.octets.specs.Octets.{flat, over}
 use Rattle.places.specs.Places.{mostRows}
-use Rattle.rows.specs.Rows.{shape, rowBytes, rowCount, rowsOf, constraint}
+use Rattle.rows.specs.Rows.{shape, listRowBytes, rowCount, entriesOf, rowsOf, constraint}
 use Rattle.reading.specs.declared.Answer.{Answer}
 use Rattle.reading.specs.declared.Answer.the-variants as answer
 use Rattle.reading.specs.Answer.{answerNumbers}
-use Rattle.reading.specs.Reading.{kept, rank, uses, picked, pickedRows, pageOf, agreement, few, tie, singular}
+use Rattle.reading.specs.Reading.{rank, agreement}
+use Rattle.reading.specs.Orders.{taken, inListOrder}
+use Rattle.reading.specs.Marks.{usesMarks, rolesMarks, plain, telling}
+use Rattle.reading.specs.Verdict.{Verdict, tooFew, tied, dependent, answered, verdict}
 
 -- The lent buffers that a reading may write.
 pub record Lent : Type 0 where
@@ -37,7 +40,7 @@ pub data Check : Type 0 where
 
 -- Not 2 list, "length no multiple of 8+L, or over 512 rows", of a list of so many bytes.
 unfoldable pub wholeLength : ℕ → ℕ → Bool
-wholeLength l size = eqb (size % rowBytes l) 0 && leb (size / rowBytes l) mostRows
+wholeLength l size = eqb (size % listRowBytes l) 0 && leb (size / listRowBytes l) mostRows
 
 abbrev pub wholeRows : ℕ → List ℕ → Bool
 wholeRows l list = wholeLength l (length list)
@@ -65,67 +68,50 @@ checks n l list lent =
 
 -- ---- the buffers at exit
 
--- For each arrival number: the value at its kept place, or d where the row is not kept.
-unfoldable pub spread : ℕ → List Bool → List ℕ → List ℕ
-spread d [] vs = []
-spread d (false ∷ ks) vs = d ∷ spread d ks vs
-spread d (true ∷ ks) [] = d ∷ spread d ks []
-spread d (true ∷ ks) (v ∷ vs) = v ∷ spread d ks vs
-
--- "the first m uses (the count for a kept row, 65535 for another)".
-unfoldable pub usesMarks : List ℕ → List ℕ
-usesMarks rows = spread 65535 (kept rows) (uses rows)
-
--- "the first m roles (0 not kept, 1 kept, 2 picked; no 2 under 5 and 6)".
-abbrev pub plain : Bool → ℕ
-plain b = 1
-
-abbrev pub telling : Bool → ℕ
-telling b = cond b 2 1
-
-unfoldable pub rolesMarks : (Bool → ℕ) → ℕ → List ℕ → List ℕ
-rolesMarks role n rows = spread 0 (kept rows) (map role (picked n rows))
-
 -- "They set the first 32,768 scratch bytes to zero."
 unfoldable pub zeros : List ℕ
 zeros = replicate scratchBytes 0
 
 -- What the numbers 5, 6, 7 and 0 leave: "All further bytes stay."
-unfoldable pub ended : ℕ → List ℕ → Lent → Answer → (Bool → ℕ) → List ℕ → Outcome
-ended n rows lent a role page =
+unfoldable pub ended : ℕ → ℕ → List ℕ → List ℕ → Lent → Answer → (Bool → ℕ) → List ℕ → Outcome
+ended n l entries order lent a role page =
     record {
       answer = a;
       lent =
           record {
             page = over page (lent .page);
-            uses = over (usesMarks rows) (lent .uses);
-            roles = over (rolesMarks role n rows) (lent .roles);
+            uses = over (usesMarks l entries order) (lent .uses);
+            roles = over (rolesMarks role n l entries order) (lent .roles);
             scratch = over zeros (lent .scratch);
           };
     }
 
--- "Only 0 writes the page, into the first nL bytes."
-unfoldable pub solved : ℕ → ℕ → List ℕ → Lent → List ℕ → Outcome
-solved n l rows lent page = ended n rows lent (answer.Page (rank rows) (agreement l page rows)) telling (flat l page)
-
 -- ---- the outcome
 
--- Of rows that pass the checks.
-unfoldable pub read : ℕ → ℕ → List ℕ → Lent → Outcome
-read n l rows lent =
-    cond (few n rows) (ended n rows lent (answer.Few (rank rows)) plain [])
-    (cond (tie n rows) (ended n rows lent (answer.Tie (rank rows)) plain [])
-    (cond (singular n l rows) (ended n rows lent (answer.Singular (rank rows)) telling [])
-    (solved n l rows lent (pageOf n l (pickedRows n rows)))))
+-- Of a verdict on the rows taken. "Only 0 writes the page, into the first nL bytes."
+unfoldable pub told : Verdict → ℕ → ℕ → List ℕ → List ℕ → Lent → Outcome
+told tooFew n l entries order lent = ended n l entries order lent (answer.Few (rank (taken l entries order))) plain []
+told tied n l entries order lent = ended n l entries order lent (answer.Tie (rank (taken l entries order))) plain []
+told dependent n l entries order lent = ended n l entries order lent (answer.Singular (rank (taken l entries order))) telling []
+told (answered page) n l entries order lent =
+    ended n l entries order lent (answer.Page (rank (taken l entries order)) (agreement l page (taken l entries order))) telling (flat l page)
+
+-- Of entries whose rows pass the checks, taken in an order.
+unfoldable pub read : ℕ → ℕ → List ℕ → List ℕ → Lent → Outcome
+read n l entries order lent = told (verdict n l (taken l entries order)) n l entries order lent
 
 -- "Numbers 1 to 4 write nothing."
-unfoldable pub after : Check → ℕ → ℕ → List ℕ → Lent → Outcome
-after (refuses a) n l rows lent = record { answer = a; lent = lent }
-after passes n l rows lent = read n l rows lent
+unfoldable pub after : Check → ℕ → ℕ → List ℕ → List ℕ → Lent → Outcome
+after (refuses a) n l entries order lent = record { answer = a; lent = lent }
+after passes n l entries order lent = read n l entries order lent
 
--- Of any list of bytes and any lent buffers.
-unfoldable pub outcome : ℕ → ℕ → List ℕ → Lent → Outcome
-outcome n l list lent = after (checks n l list lent) n l (rowsOf l list) lent
+-- Of any list of bytes and any lent buffers, in any order.
+unfoldable pub outcomeIn : (List ℕ → List ℕ) → ℕ → ℕ → List ℕ → Lent → Outcome
+outcomeIn order n l list lent = after (checks n l list lent) n l (entriesOf l list) (order (entriesOf l list)) lent
+
+-- "Rows are taken in list order."
+abbrev pub outcome : ℕ → ℕ → List ℕ → Lent → Outcome
+outcome n l list lent = outcomeIn inListOrder n l list lent
 
 -- Whether it gives a page.
 unfoldable pub gave : Outcome → Bool

@@ -2,7 +2,7 @@
 use Prim.Native.Nat.{ℕ, _+_, _*_}
 use mathlib.Core.List.{List, [], _∷_, map}
 use Rattle.octets.specs.Octets.{flat, over}
-use Rattle.rows.specs.Rows.{rowBytes}
+use Rattle.rows.specs.Rows.{listRowBytes}
 use Rattle.reading.specs.declared.Numbers.{Numbers}
 use Rattle.reading.specs.Answer.{numbered, answerNumbers}
 use Rattle.reading.specs.Outcome.{Lent, Outcome, zeros}
@@ -68,7 +68,7 @@ cases = k1 ∷ k2 ∷ k3 ∷ k4 ∷ k5 ∷ k6 ∷ k7 ∷ k8 ∷ k9 ∷ k10 ∷ k
 
 -- The list of a case, in bytes.
 unfoldable pub listOf : Case → List ℕ
-listOf c = flat (rowBytes 1) (map (λ r. r .0 * 256 + r .1) (c .rows))
+listOf c = flat (listRowBytes 1) (map (λ r. r .0 * 256 + r .1) (c .rows))
 
 -- What is seen of an outcome, and what the table says is to be seen.
 pub record Seen : Type 0 where

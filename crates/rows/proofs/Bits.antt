@@ -1,16 +1,17 @@
 -- The sum that a constraint names, one set bit at a time, the lowest first: what a loop over them keeps, whatever it holds the sum in.
 -- Assumes nothing.
-use mathlib.Core.Path.{_≡_, refl, sym, ap, ap₂, _∙_}
+use mathlib.Core.Path.{_≡_, sym, ap, ap₂, _∙_}
 use Prim.Native.Nat.{ℕ, suc, _+_, _-_, _*_, _/_, _%_, _^_, _≤_, _<_}
 use native.Mathlib.Nat.{le-refl, suc-mul, mul-le-mul-right, div-mul-le-self, le-trans, lt-of-le-of-lt}
 use native.Mathlib.Omega.{arith}
-use mathlib.Core.List.{List, [], _∷_}
+use mathlib.Core.List.{List}
 use lib.Bits.{bitXor, xor-comm, xor-shifted}
-use lib.Pow.{field, mod-mod-pow, pow-lt}
+use lib.Pow.{pow-lt}
 use lib.ListN.{length, take, drop, getD}
 use Rattle.space.specs.Space.{_⊕_}
 use Rattle.space.specs.Lists.{Below}
 use Rattle.space.proofs.Xor.{zero-⊕, ⊕-zero, ⊕-assoc}
+use Rattle.space.proofs.SumBy.{sumBy-⊕, sumBy-zero, sumBy-unit, sumBy-low}
 use Rattle.octets.specs.Octets.{number, bytes, xorBytes, addFront}
 use Rattle.octets.proofs.Numbers.{bytes-number, bytes-⊕, length-bytes}
 use Rattle.octets.proofs.Runs.{below-parts, getD-numbers}
@@ -21,35 +22,19 @@ use Rattle.bits.specs.Bits.{lowest}
 use Rattle.bits.proofs.Bits.{Lowest, lowest-place, lowest-back}
 use Rattle.rows.specs.Rows.{symbols, named}
 use Rattle.rows.specs.Make.{cut}
-use Rattle.rows.proofs.Sums.{named-⊕, named-unit, named-zero}
 use Rattle.rows.proofs.Pages.{length-symbols}
 
 -- ---- the bits of a constraint
 
--- bits past the last symbol name nothing
-named-low : (page : List ℕ) (c : ℕ) → named page (c % 2 ^ length page) ≡ named page c
-unfolding named
-named-low [] c = refl
-named-low (s ∷ page) c = ap₂ (λ d x. d * s ⊕ x) odd (ap (named page) half ∙ named-low page (c / 2))
-  where
-    wide : suc (length page) ≡ length page + 1
-    wide = omega arith
-
-    odd : c % 2 ^ suc (length page) % 2 ≡ c % 2
-    odd = ap (λ (e : ℕ). c % 2 ^ e % 2) wide ∙ mod-mod-pow c (length page) 1
-
-    half : c % 2 ^ suc (length page) / 2 ≡ c / 2 % 2 ^ length page
-    half = ap (λ (e : ℕ). c % 2 ^ e / 2) wide ∙ field c (length page) 1
-
 pub named-cut : (l : ℕ) (page : List ℕ) (c : ℕ) → named (cut l page) (c % 2 ^ (length page / l)) ≡ named (cut l page) c
 named-cut l page c =
-    ap (λ (n : ℕ). named (cut l page) (c % 2 ^ n)) (sym (length-symbols (length page / l) l page)) ∙ named-low (cut l page) c
+    ap (λ (n : ℕ). named (cut l page) (c % 2 ^ n)) (sym (length-symbols (length page / l) l page)) ∙ sumBy-low (cut l page) c
 
 -- the symbol of the lowest set bit, and the sum that the others name
 named-bottom : (page : List ℕ) (c : ℕ) → 0 < c → c < 2 ^ 64 → lowest c < length page
     → named page c ≡ getD page (lowest c) 0 ⊕ named page (c - 2 ^ lowest c)
 named-bottom page c some fits h =
-    ap (named page) parts ∙ named-⊕ page (2 ^ lowest c) (c - 2 ^ lowest c) ∙ ap (λ x. x ⊕ named page (c - 2 ^ lowest c)) (named-unit page (lowest c) h)
+    ap (named page) parts ∙ sumBy-⊕ page (2 ^ lowest c) (c - 2 ^ lowest c) ∙ ap (λ x. x ⊕ named page (c - 2 ^ lowest c)) (sumBy-unit page (lowest c) h)
   where
     place : Lowest (lowest c) c
     place = lowest-place c some fits
@@ -94,7 +79,7 @@ module _ {A : Type 0} (shows : ℕ → A) (l : ℕ) (page : List ℕ) (names : �
   adding-start e = record { sum = 0; shown = e; fewer = le-refl names; whole = zero-⊕ (named (cut l page) names) }
 
   pub adding-end : Adding shows l page names held 0 → held ≡ shows (named (cut l page) names)
-  adding-end a = a .shown ∙ ap shows (sym (⊕-zero (a .sum)) ∙ ap (λ (x : ℕ). a .sum ⊕ x) (sym (named-zero (cut l page))) ∙ a .whole)
+  adding-end a = a .shown ∙ ap shows (sym (⊕-zero (a .sum)) ∙ ap (λ (x : ℕ). a .sum ⊕ x) (sym (sumBy-zero (cut l page))) ∙ a .whole)
 
   module _ (rest : ℕ) (fits : names < 2 ^ 64) (inside : names < 2 ^ (length page / l)) (a : Adding shows l page names held rest) (some : 0 < rest) where
     -- the lowest bit names a symbol of the page

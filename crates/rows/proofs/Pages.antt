@@ -12,11 +12,12 @@ use borrow.Author.Tests.{eqb-true, eq-eqb}
 use Rattle.space.specs.Space.{_⊕_, independent}
 use Rattle.space.specs.Lists.{Below, All}
 use Rattle.space.proofs.Linear.{map-independent}
+use Rattle.space.proofs.SumBy.{sumBy-⊕, sumBy-lt}
 use Rattle.octets.specs.Octets.{flat}
 use Rattle.octets.proofs.Runs.{length-numbers, numbers-small, flat-numbers}
 use Rattle.rows.specs.Rows.{symbols, constraint, payload, named, agrees, made}
 use Rattle.rows.specs.Make.{cut}
-use Rattle.rows.proofs.Sums.{constraint-zero, named-⊕, named-lt}
+use Rattle.rows.proofs.Sums.{constraint-zero}
 
 pub length-symbols : (n l : ℕ) (page : List ℕ) → length (symbols n l page) ≡ n
 unfolding symbols
@@ -44,21 +45,21 @@ cut-symbols n l page low e =
 module _ (l : ℕ) (page : List ℕ) (b : Below (2 ^ (8 * l)) page) where
   pub named-constraint : (c : ℕ) → constraint l (named page c) ≡ 0
   unfolding constraint
-  named-constraint c = div-eq-of-lt (named-lt (8 * l) page b c)
+  named-constraint c = div-eq-of-lt (sumBy-lt (8 * l) page b c)
 
   pub made-⊕ : (a c : ℕ) → made l page (a ⊕ c) ≡ made l page a ⊕ made l page c
   unfolding made _⊕_
   made-⊕ a c =
-      ap (λ (x : ℕ). bitXor a c * 2 ^ (8 * l) + x) (named-⊕ page a c)
-      ∙ sym (xor-block (8 * l) a c (named page a) (named page c) (named-lt (8 * l) page b a) (named-lt (8 * l) page b c))
+      ap (λ (x : ℕ). bitXor a c * 2 ^ (8 * l) + x) (sumBy-⊕ page a c)
+      ∙ sym (xor-block (8 * l) a c (named page a) (named page c) (sumBy-lt (8 * l) page b a) (sumBy-lt (8 * l) page b c))
 
   pub made-constraint : (c : ℕ) → constraint l (made l page c) ≡ c
   unfolding made constraint
-  made-constraint c = high c (8 * l) (named-lt (8 * l) page b c)
+  made-constraint c = high c (8 * l) (sumBy-lt (8 * l) page b c)
 
   pub made-payload : (c : ℕ) → payload l (made l page c) ≡ named page c
   unfolding made payload
-  made-payload c = low c (8 * l) (named-lt (8 * l) page b c)
+  made-payload c = low c (8 * l) (sumBy-lt (8 * l) page b c)
 
   pub made-inj : (c : ℕ) → made l page c ≡ 0 → c ≡ 0
   made-inj c e = sym (made-constraint c) ∙ ap (constraint l) e ∙ constraint-zero l

@@ -7,12 +7,17 @@ use Rattle.rows.proofs.shaped.Kinds as shaped
 use Rattle.rows.proofs.shaped.Reads as shaped-contract
 use Rattle.rows.proofs.strays.Kinds as strays
 use Rattle.rows.proofs.strays.Reads as strays-contract
+use Rattle.rows.proofs.stride.Kinds as stride
+use Rattle.rows.proofs.stride.Reads as stride-contract
 use Rattle.rows.proofs.make.Kinds as make
 use Rattle.rows.proofs.make.Reads as make-contract
 use Rattle.rows.proofs.sum.Kinds as sum
 use Rattle.rows.proofs.sum.Reads as sum-contract
 
--- A function that lends nothing and answers one value.
+pub stride-settled : Settles stride.ps stride.r stride-contract.Post
+stride-settled κs args = unique (λ o is. ap (λ answer. (answer, (tt, tt))) is)
+
+-- A function of two numbers that lends nothing and answers one value.
 answer-only : {A : Type 0} {x y : A} → x ≡ y → _≡_ {A = A × (Unit {0} × (Unit {0} × Unit {0}))} (x, (tt, (tt, tt))) (y, (tt, (tt, tt)))
 answer-only e = ap (λ answer. (answer, (tt, (tt, tt)))) e
 

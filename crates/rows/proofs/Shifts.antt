@@ -1,30 +1,31 @@
 -- Adding a page to a row: a one-to-one map that respects sums, keeps the constraint, and keeps agreement when the page gets the same page added.
 -- Assumes nothing.
-use mathlib.Core.Path.{_≡_, refl, sym, ap, _∙_}
-use Prim.Native.Nat.{ℕ, suc, _+_, _*_, _/_, _%_, _^_}
+use mathlib.Core.Path.{_≡_, refl, sym, ap, ap₂, _∙_}
+use Prim.Native.Nat.{ℕ, suc, _+_, _*_, _/_, _%_, _^_, _<_}
 use native.Mathlib.Nat.{mod-lt, zero-lt-suc, mod-eq-of-lt, lt-of-lt-of-le}
 use native.Mathlib.Omega.{arith}
 use mathlib.Core.List.{List, [], _∷_, map}
 use lib.Pow.{pow-mono}
 use lib.ListN.{length, getD, length-map}
-use Rattle.space.specs.Space.{_⊕_}
+use Rattle.space.specs.Space.{_⊕_, sumBy}
 use Rattle.space.specs.Lists.{Below, tabulate}
 use Rattle.space.proofs.Lists.{map-both}
 use Rattle.space.proofs.Xor.{zero-⊕, ⊕-zero, ⊕-four, ⊕-lt, times-⊕, eqb-⊕}
+use Rattle.space.proofs.SumBy.{sumBy-⊕, sumBy-zero, sumBy-lt}
 use Rattle.octets.specs.Octets.{bytes, flat, xorBytes}
 use Rattle.octets.proofs.Xors.{xorBytes-append}
 use Rattle.octets.proofs.Numbers.{length-bytes, bytes-⊕}
 use Rattle.octets.proofs.Runs.{length-flat}
-use Rattle.rows.specs.Rows.{rowBytes, rowCount, rowsOf, constraint, payload, named, agrees}
-use Rattle.rows.specs.Shift.{shifted, shiftedList, plus}
-use Rattle.rows.proofs.Sums.{constraint-⊕, payload-⊕, constraint-zero, named-⊕, named-zero, named-lt}
+use Rattle.rows.specs.Rows.{rowBytes, listRowBytes, rowCount, entriesOf, vector, rowsOf, constraint, payload, named, agrees}
+use Rattle.rows.specs.Shift.{shifted, shiftedEntry, shiftedList, plus}
+use Rattle.rows.proofs.Sums.{constraint-⊕, payload-⊕, vector-⊕, constraint-zero}
 use Rattle.rows.proofs.Pages.{named-constraint}
-use Rattle.rows.proofs.Lists.{rowCount-flat, rows-flat, length-rowsOf, rows-below}
+use Rattle.rows.proofs.Lists.{vector-whole, rowCount-flat, entries-flat, length-entriesOf, entries-below}
 
 -- ---- two pages added
 
 pub named-plus : (p q : List ℕ) → length p ≡ length q → (c : ℕ) → named (plus p q) c ≡ named p c ⊕ named q c
-unfolding plus named
+unfolding plus sumBy
 named-plus [] [] e c = sym (zero-⊕ 0)
 named-plus [] (t ∷ q) e c = absurd (omega arith)
 named-plus (s ∷ p) [] e c = absurd (omega arith)
@@ -52,7 +53,7 @@ tabulate-plus f (t ∷ q) = ap (λ x. f 0 ⊕ t ∷ x) (tabulate-plus (λ k. f (
 pub shifted-⊕ : (l : ℕ) (page : List ℕ) (a b : ℕ) → shifted l page (a ⊕ b) ≡ shifted l page a ⊕ shifted l page b
 unfolding shifted
 shifted-⊕ l page a b =
-    rw (constraint-⊕ l a b) (rw (named-⊕ page (constraint l a) (constraint l b)) (⊕-four a b (named page (constraint l a)) (named page (constraint l b))))
+    rw (constraint-⊕ l a b) (rw (sumBy-⊕ page (constraint l a) (constraint l b)) (⊕-four a b (named page (constraint l a)) (named page (constraint l b))))
 
 module _ (l : ℕ) (page : List ℕ) (b : Below (2 ^ (8 * l)) page) where
   pub shifted-constraint : (row : ℕ) → constraint l (shifted l page row) ≡ constraint l row
@@ -64,11 +65,11 @@ module _ (l : ℕ) (page : List ℕ) (b : Below (2 ^ (8 * l)) page) where
   shifted-payload row = payload-⊕ l row (named page (constraint l row)) ∙ ap (λ (x : ℕ). payload l row ⊕ x) small
     where
       small : payload l (named page (constraint l row)) ≡ named page (constraint l row)
-      small = unfold payload in mod-eq-of-lt (named-lt (8 * l) page b (constraint l row))
+      small = unfold payload in mod-eq-of-lt (sumBy-lt (8 * l) page b (constraint l row))
 
   pub shifted-inj : (v : ℕ) → shifted l page v ≡ 0 → v ≡ 0
   unfolding shifted
-  shifted-inj v e = sym (rw free (rw (named-zero page) (⊕-zero v))) ∙ e
+  shifted-inj v e = sym (rw free (rw (sumBy-zero page) (⊕-zero v))) ∙ e
     where
       free : constraint l v ≡ 0
       free = sym (shifted-constraint v) ∙ ap (constraint l) e ∙ constraint-zero l
@@ -85,25 +86,52 @@ module _ (l : ℕ) (page : List ℕ) (b : Below (2 ^ (8 * l)) page) where
       rw (shifted-constraint r) (rw (shifted-payload r) (rw (named-plus given page e (constraint l r))
       (eqb-⊕ (payload l r) (named given (constraint l r)) (named page (constraint l r)))))
 
-  -- ---- to a list of rows
+  -- ---- to an entry of a list, and to each
 
-  shifted-below : (rows : List ℕ) → Below (2 ^ (8 * rowBytes l)) rows → Below (2 ^ (8 * rowBytes l)) (map (shifted l page) rows)
-  unfolding shifted
-  shifted-below [] h = tt
-  shifted-below (r ∷ rows) h =
-      (⊕-lt (8 * rowBytes l) r _ (h .0) (lt-of-lt-of-le (named-lt (8 * l) page b (constraint l r)) (pow-mono (omega arith))), shifted-below rows (h .1))
+  pub shifted-entry : (entry : ℕ) → vector l (shiftedEntry l page entry) ≡ shifted l page (vector l entry)
+  unfolding shiftedEntry shifted
+  shifted-entry entry = vector-⊕ l entry (named page (constraint l (vector l entry))) ∙ ap (λ (x : ℕ). vector l entry ⊕ x) (vector-whole l _ (small entry))
+    where
+      small : (entry : ℕ) → named page (constraint l (vector l entry)) < 2 ^ (8 * rowBytes l)
+      small entry = lt-of-lt-of-le (sumBy-lt (8 * l) page b (constraint l (vector l entry))) (pow-mono (omega arith))
 
-  module _ (list : List ℕ) (whole : length list ≡ rowCount l list * rowBytes l) (b256 : Below 256 list) where
+  pub shifted-entries : (entries : List ℕ) → map (vector l) (map (shiftedEntry l page) entries) ≡ map (shifted l page) (map (vector l) entries)
+  shifted-entries entries =
+      map-both (vector l) (shiftedEntry l page) (λ e. shifted l page (vector l e)) shifted-entry entries
+      ∙ sym (map-both (shifted l page) (vector l) (λ e. shifted l page (vector l e)) (λ e. refl) entries)
+
+  entries-low : (entries : List ℕ) → Below (2 ^ (8 * listRowBytes l)) entries → Below (2 ^ (8 * listRowBytes l)) (map (shiftedEntry l page) entries)
+  unfolding shiftedEntry
+  entries-low [] h = tt
+  entries-low (e ∷ entries) h =
+      (⊕-lt (8 * listRowBytes l) e _ (h .0) (lt-of-lt-of-le (sumBy-lt (8 * l) page b (constraint l (vector l e))) (pow-mono (omega arith))), entries-low entries (h .1))
+
+  module _ (list : List ℕ) where
     pub rowCount-shiftedList : rowCount l (shiftedList l page list) ≡ rowCount l list
     unfolding shiftedList
-    rowCount-shiftedList = rowCount-flat l (map (shifted l page) (rowsOf l list)) ∙ length-map (rowsOf l list) (shifted l page) ∙ length-rowsOf l list
+    rowCount-shiftedList = rowCount-flat l (map (shiftedEntry l page) (entriesOf l list)) ∙ length-map (entriesOf l list) (shiftedEntry l page) ∙ length-entriesOf l list
 
-    pub length-shiftedList : length (shiftedList l page list) ≡ length list
+    pub length-shiftedList : length list ≡ rowCount l list * listRowBytes l → length (shiftedList l page list) ≡ length list
     unfolding shiftedList
-    length-shiftedList =
-        length-flat (8 + l) (map (shifted l page) (rowsOf l list))
-        ∙ ap (λ (m : ℕ). m * rowBytes l) (length-map (rowsOf l list) (shifted l page) ∙ length-rowsOf l list) ∙ sym whole
+    length-shiftedList whole =
+        length-flat (listRowBytes l) (map (shiftedEntry l page) (entriesOf l list))
+        ∙ ap (λ (m : ℕ). m * listRowBytes l) (length-map (entriesOf l list) (shiftedEntry l page) ∙ length-entriesOf l list) ∙ sym whole
 
-    pub rows-shiftedList : rowsOf l (shiftedList l page list) ≡ map (shifted l page) (rowsOf l list)
+    pub entries-shiftedList : Below 256 list → entriesOf l (shiftedList l page list) ≡ map (shiftedEntry l page) (entriesOf l list)
     unfolding shiftedList
-    rows-shiftedList = rows-flat l (map (shifted l page) (rowsOf l list)) (shifted-below (rowsOf l list) (rows-below l list whole b256))
+    entries-shiftedList bytes = entries-flat l (map (shiftedEntry l page) (entriesOf l list)) (entries-low (entriesOf l list) (entries-below l list bytes))
+
+    pub rows-shiftedList : Below 256 list → rowsOf l (shiftedList l page list) ≡ map (shifted l page) (rowsOf l list)
+    unfolding rowsOf
+    rows-shiftedList bytes = ap (map (vector l)) (entries-shiftedList bytes) ∙ shifted-entries (entriesOf l list)
+
+  -- ---- to rows laid flat
+
+  shifted-rows : (rows : List ℕ) → Below (2 ^ (8 * rowBytes l)) rows → map (shiftedEntry l page) rows ≡ map (shifted l page) rows
+  unfolding shiftedEntry shifted
+  shifted-rows [] h = refl
+  shifted-rows (r ∷ rows) h = ap₂ (λ x t. x ∷ t) (rw (vector-whole l r (h .0))) (shifted-rows rows (h .1))
+
+  pub shifted-flat : (rows : List ℕ) → Below (2 ^ (8 * rowBytes l)) rows → shiftedList l page (flat (listRowBytes l) rows) ≡ flat (listRowBytes l) (map (shifted l page) rows)
+  unfolding shiftedList
+  shifted-flat rows h = rw (entries-flat l rows h, shifted-rows rows h)

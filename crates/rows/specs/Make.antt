@@ -7,7 +7,7 @@ use lib.ListN.{length}
 use Rattle.octets.specs.Octets.{number, bytes, over}
 use Rattle.rows.specs.declared.Made.{Made}
 use Rattle.rows.specs.declared.Made.the-variants.{Row, Shape, Stray, Room, Length}
-use Rattle.rows.specs.Rows.{shape, symbols, rowBytes, named, agrees}
+use Rattle.rows.specs.Rows.{shape, symbols, listRowBytes, named, agrees}
 
 -- "return a number (0 when done)":
 unfoldable pub numberOf : Made → ℕ
@@ -32,7 +32,7 @@ makeAnswer n l c page room =
     cond (not (shape n l)) Shape
     (cond (not (eqb page (n * l))) Length
     (cond (stray n c) Stray
-    (cond (ltb room (rowBytes l)) Room
+    (cond (ltb room (listRowBytes l)) Room
     Row)))
 
 -- The bytes of a row: "the constraint as a big-endian 64-bit number, .. then the payload."

@@ -2,10 +2,10 @@
 -- A symbol, a constraint, a payload and a row are each the number of their bytes; a page is the list of its symbols.
 use Prim.Native.Nat.{ℕ, _+_, _*_, _/_, _%_, _^_}
 use mathlib.Core.Bool.{Bool, _&&_}
-use mathlib.Core.List.{List, [], _∷_}
+use mathlib.Core.List.{List, map}
 use lib.Dec.{eqb, leb}
 use lib.ListN.{length}
-use Rattle.space.specs.Space.{_⊕_}
+use Rattle.space.specs.Space.{sumBy}
 use Rattle.octets.specs.Octets.{numbers}
 
 -- "n is 1 to 64, L is 1 to 32".
@@ -16,15 +16,26 @@ shape n l = (leb 1 n && leb n 64) && (leb 1 l && leb l 32)
 unfoldable pub symbols : ℕ → ℕ → List ℕ → List ℕ
 symbols n l page = numbers l n page
 
--- "In a list a row has 8+L bytes":
+-- "A row is a constraint .. and a payload of L bytes": the bytes of a row by itself, 8 of them for the constraint.
 abbrev pub rowBytes : ℕ → ℕ
 rowBytes l = 8 + l
 
+-- "In a list a row has 8+L bytes": what stands for a row in a list is its entry, and these are the bytes from one entry to the next.
+abbrev pub listRowBytes : ℕ → ℕ
+listRowBytes l = rowBytes l
+
 unfoldable pub rowCount : ℕ → List ℕ → ℕ
-rowCount l list = length list / rowBytes l
+rowCount l list = length list / listRowBytes l
+
+unfoldable pub entriesOf : ℕ → List ℕ → List ℕ
+entriesOf l list = numbers (listRowBytes l) (rowCount l list) list
+
+-- The row of an entry: its last bytes.
+unfoldable pub vector : ℕ → ℕ → ℕ
+vector l entry = entry % 2 ^ (8 * rowBytes l)
 
 unfoldable pub rowsOf : ℕ → List ℕ → List ℕ
-rowsOf l list = numbers (rowBytes l) (rowCount l list) list
+rowsOf l list = map (vector l) (entriesOf l list)
 
 -- "the constraint as a big-endian 64-bit number, .. then the payload."
 unfoldable pub constraint : ℕ → ℕ → ℕ
@@ -34,9 +45,8 @@ unfoldable pub payload : ℕ → ℕ → ℕ
 payload l row = row % 2 ^ (8 * l)
 
 -- "the exclusive-or of the symbols its constraint names"; "the bit worth 2^k names symbol k"; "the empty sum is all zero bytes."
-unfoldable pub named : List ℕ → ℕ → ℕ
-named [] c = 0
-named (s ∷ page) c = c % 2 * s ⊕ named page (c / 2)
+abbrev pub named : List ℕ → ℕ → ℕ
+named page c = sumBy page c
 
 -- "A row agrees with a page when its payload is the exclusive-or of the symbols its constraint names".
 unfoldable pub agrees : ℕ → List ℕ → ℕ → Bool

@@ -3,7 +3,7 @@ ghost use mathlib.Core.Path.{_≡_};
 ghost use Prim.Native.Nat.{_/_, _^_, _<_};
 ghost use lib.ListN.{length};
 ghost use Rattle.octets.specs.Octets.{bytes, xorBytes};
-ghost use Rattle.rows.specs.Rows.{shape, named};
+ghost use Rattle.rows.specs.Rows.{shape, listRowBytes, named};
 ghost use Rattle.rows.specs.Make.{makeAnswer, makeRoom, stray, cut};
 
 // The answer of making; specs/Make.antt gives document 01's number and place for each case.
@@ -29,6 +29,13 @@ pub fn shaped(n: u8, l: u8) -> bool
         return false;
     }
     l <= 32
+}
+
+// The bytes from one entry of a list to the next.
+pub fn stride(l: u8) -> usize
+    ensures { λ r. ⌜ r ≡ listRowBytes l ⌝ }
+{
+    8 + (l as usize)
 }
 
 // Whether a constraint names a symbol that a page of n symbols has not.
@@ -82,7 +89,7 @@ fn answer(n: u8, l: u8, constraint: u64, page: usize, room: usize) -> Made
     if strays(n, constraint) {
         return Made::Stray;
     }
-    if room < 8 + (l as usize) {
+    if room < stride(l) {
         return Made::Room;
     }
     Made::Row

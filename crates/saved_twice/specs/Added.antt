@@ -4,7 +4,7 @@ use mathlib.Core.Bool.{cond}
 use mathlib.Core.List.{List}
 use lib.ListN.{take}
 use Rattle.octets.specs.Octets.{over}
-use Rattle.rows.specs.Rows.{rowBytes, symbols}
+use Rattle.rows.specs.Rows.{listRowBytes, symbols}
 use Rattle.rows.specs.Shift.{shiftedList}
 use Rattle.reading.specs.Outcome.{Outcome, gave}
 use Rattle.reading.specs.Added.{added}
@@ -23,7 +23,7 @@ unfoldable pub addedSecond : ℕ → ℕ → List ℕ → Pair → Second
 addedSecond n l page p =
     let second = added page (secondOf p) in
     record {
-      list = over (shiftedList l (symbols n l page) (take (p .answers .rows * rowBytes l) (p .second .list))) (p .second .list);
+      list = over (shiftedList l (symbols n l page) (take (p .answers .rows * listRowBytes l) (p .second .list))) (p .second .list);
       page = second .lent .page;
       uses = second .lent .uses;
       roles = second .lent .roles;

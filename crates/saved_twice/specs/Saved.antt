@@ -4,16 +4,19 @@ use mathlib.Core.Bool.{_||_}
 use mathlib.Core.List.{List}
 use lib.ListN.{take}
 use Rattle.space.specs.Lists.{All}
-use Rattle.rows.specs.Rows.{symbols, rowBytes, rowsOf, agrees}
+use Rattle.rows.specs.Rows.{symbols, listRowBytes, entriesOf, rowsOf, agrees}
 use Rattle.both.specs.Both.{Pair}
 
 -- The symbols of the page that the first reading gave.
 abbrev pub pageGiven : ℕ → ℕ → Pair → List ℕ
 pageGiven n l p = symbols n l (p .lent .page)
 
--- The second list: the rows that were copied to the front of its buffer, as bytes and as rows.
+-- The second list: what was copied to the front of its buffer, as bytes, as entries and as rows.
 abbrev pub secondList : ℕ → Pair → List ℕ
-secondList l p = take (p .answers .rows * rowBytes l) (p .second .list)
+secondList l p = take (p .answers .rows * listRowBytes l) (p .second .list)
+
+abbrev pub secondEntries : ℕ → Pair → List ℕ
+secondEntries l p = entriesOf l (secondList l p)
 
 abbrev pub secondRows : ℕ → Pair → List ℕ
 secondRows l p = rowsOf l (secondList l p)

@@ -1,9 +1,9 @@
 // Reduces a vector of bytes by slots, one for each digit of its key: the one step of elimination and of solving.
 ghost use mathlib.Core.Path.{_≡_};
 ghost use mathlib.Core.Bool.{true};
-ghost use Prim.Native.Nat.{_%_, _^_, _<_};
+ghost use Prim.Native.Nat.{_+_, _*_, _%_, _^_, _≤_, _<_};
 ghost use lib.Bits.{bitXor};
-ghost use lib.ListN.{length};
+ghost use lib.ListN.{length, take, drop};
 ghost use Rattle.octets.specs.Octets.{bytes};
 ghost use Rattle.words.specs.Words.{wordAt};
 ghost use Rattle.vectors.specs.Vectors.{bytesOf};
@@ -40,6 +40,25 @@ fn behind(x: u64, y: u64, b: usize) -> u64
     (x ^ y) % (1u64 << b)
 }
 
+// Slot u, of 80 bytes.
+fn slot_of(slots: &[u8], u: usize) -> &[u8]
+    requires { ⌜ (u * 80 + 80 ≤ length (now slots)) × (u * 80 + 80 < 2 ^ 64) ⌝ }
+    ensures { λ r. ⌜ now r ≡ take 80 (drop (u * 80) (now (slots .entry))) ⌝ }
+{
+    let at = u * 80;
+    let e = at + 80;
+    &slots[at..e]
+}
+
+// The head for the digit worth 2^b.
+fn head_of(heads: &[u8], b: usize) -> u64
+    requires { ⌜ (b < 64) × (length (now heads) ≡ 512) ⌝ }
+{
+    let at = 8 * b;
+    let e = at + 8;
+    words::little(&heads[at..e], 0)
+}
+
 // ---- 64 slots
 
 // The pass over the 64 slots from byte g of the key on, and where it stops: behind the last of them if it went by all. The word x has the digits that are left, so that no byte is read back after a slot is added. The pass goes on behind each slot, so it
@@ -59,11 +78,12 @@ fn group(work: &mut [u8], slots: &[u8], key: usize, g: usize) -> usize
         }
         let at = u * w;
         let e = at + w;
-        let y = words::word(&slots[at..e], g);
+        let slot = &slots[at..e];
+        let y = words::word(slot, g);
         if !has(y, b) {
             return u;
         }
-        octets::add(work, &slots[at..e]);
+        octets::add(work, slot);
         x = behind(x, y, b);
     }
     octets::least(8 * g + 64, end)
@@ -85,12 +105,9 @@ fn walk_on(from: Vector, digits: u64, slots: &[u8], heads: &[u8], key: usize, g:
         if end <= u {
             return Walk::Ended(v, end);
         }
-        let h = 8 * b;
-        let i = h + 8;
-        let y = words::little(&heads[h..i], 0);
-        let at = u * 80;
-        let e = at + 80;
-        if y != words::word(&slots[at..e], g) {
+        let y = head_of(heads, b);
+        let slot = slot_of(slots, u);
+        if y != words::word(slot, g) {
             return Walk::Astray;
         }
         if y >> b != 1 {
@@ -99,13 +116,28 @@ fn walk_on(from: Vector, digits: u64, slots: &[u8], heads: &[u8], key: usize, g:
             }
             return Walk::Ended(v, u);
         }
-        v = vectors::plus(v, vectors::load(&slots[at..e]));
+        v = vectors::plus(v, vectors::load(slot));
         x = x ^ y;
     }
     Walk::Ended(v, octets::least(8 * g + 64, end))
 }
 
-// The pass over the 64 slots in registers, unless a head leads astray. Where no digit is set, nothing is loaded.
+// The pass over the 64 slots in registers, unless a head leads astray; the word x has the vector's digits.
+fn walk_or_group(work: &mut [u8], x: u64, slots: &[u8], heads: &[u8], key: usize, g: usize) -> usize
+    requires { ⌜ (reducible key (length (now work)) (length (now slots)) ≡ true) × (g < key) × (length (now work) ≡ 80) × (length (now heads) ≡ 512)
+        × (x ≡ wordAt g (now work)) ⌝ }
+    ensures { λ r. ⌜ Grouped key (now (slots .entry)) (now (work .entry)) (now (work .exit)) g r ⌝ }
+{
+    match walk_on(vectors::load(work), x, slots, heads, key, g) {
+        Walk::Ended(v, u) => {
+            vectors::store(work, v);
+            u
+        }
+        Walk::Astray => group(work, slots, key, g),
+    }
+}
+
+// The same where there are heads for these slots. Where no digit is set, nothing is loaded.
 fn group_80(work: &mut [u8], slots: &[u8], heads: &[u8], key: usize, g: usize) -> usize
     requires { ⌜ (reducible key (length (now work)) (length (now slots)) ≡ true) × (g < key) × (length (now work) ≡ 80) ⌝ }
     ensures { λ r. ⌜ Grouped key (now (slots .entry)) (now (work .entry)) (now (work .exit)) g r ⌝ }
@@ -119,13 +151,7 @@ fn group_80(work: &mut [u8], slots: &[u8], heads: &[u8], key: usize, g: usize) -
     if heads.len() < i {
         return group(work, slots, key, g);
     }
-    match walk_on(vectors::load(work), x, slots, &heads[h..i], key, g) {
-        Walk::Ended(v, u) => {
-            vectors::store(work, v);
-            u
-        }
-        Walk::Astray => group(work, slots, key, g),
-    }
+    walk_or_group(work, x, slots, &heads[h..i], key, g)
 }
 
 // The pass over the 64 slots, as the vector's length allows.

@@ -1,13 +1,2 @@
-pub mod Filling
-pub mod Pages
-pub mod Chosen
-pub mod Slots
-pub mod Offers
-pub mod Entering
-pub mod Offering
-pub mod Units
-pub mod Writing
-pub mod Solves
 pub mod Outcomes
 pub mod Settled
-pub mod Answers

@@ -1,6 +1,11 @@
 pub mod Both
 pub mod Lists
+pub mod Counting
 pub mod Xor
+pub mod SumBy
 pub mod Sets
+pub mod Closed
 pub mod Dimension
 pub mod Linear
+pub mod Exchange
+pub mod SameSpan

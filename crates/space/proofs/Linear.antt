@@ -1,4 +1,4 @@
--- A map that respects sums, and takes only zero to zero, changes no span, no set and no independence.
+-- A map that respects sums takes what vectors span to what their images span; one that takes only zero to zero changes no span, no set and no independence.
 -- Assumes nothing.
 use mathlib.Core.Path.{_≡_, refl, sym, ap, _∙_}
 use Prim.Native.Nat.{ℕ}
@@ -8,6 +8,7 @@ use lib.Dec.{eqb}
 use borrow.Author.Tests.{eqb-true, eqb-false, eq-eqb, ne-eqb}
 use Rattle.space.specs.Space.{_⊕_, sumOf, spans, setOf, independent}
 use Rattle.space.proofs.Xor.{⊕-self, zero-⊕, ⊕-four}
+use Rattle.space.proofs.Sets.{spans-sum, setOf-sum, first-free, rest-free, independent-cons}
 
 module _ (φ : ℕ → ℕ) (add : (a b : ℕ) → φ (a ⊕ b) ≡ φ a ⊕ φ b) where
   pub map-zero : φ 0 ≡ 0
@@ -19,6 +20,16 @@ module _ (φ : ℕ → ℕ) (add : (a b : ℕ) → φ (a ⊕ b) ≡ φ a ⊕ φ 
   map-sum (k ∷ ks) [] = sym map-zero
   map-sum (k ∷ ks) (true ∷ set) = rw (add k (sumOf ks set)) (rw (map-sum ks set))
   map-sum (k ∷ ks) (false ∷ set) = map-sum ks set
+
+  -- images span the image of what the vectors span
+  pub map-spanned : (ks : List ℕ) (v : ℕ) → spans ks v ≡ true → spans (map φ ks) (φ v) ≡ true
+  map-spanned ks v h = rw (map-sum ks (setOf ks v), setOf-sum ks v h) at (spans-sum (map φ ks) (setOf ks v))
+
+  -- so vectors with independent images are independent
+  pub map-free : (ks : List ℕ) → independent (map φ ks) ≡ true → independent ks ≡ true
+  map-free [] i = unfold independent in refl
+  map-free (k ∷ ks) i =
+      independent-cons k ks (λ e. first-free (φ k) (map φ ks) i (map-spanned ks k e)) (map-free ks (rest-free (φ k) (map φ ks) i))
 
   module _ (inj : (v : ℕ) → φ v ≡ 0 → v ≡ 0) where
     zero-test : (v : ℕ) → eqb (φ v) 0 ≡ eqb v 0

@@ -163,8 +163,8 @@ pub setOf-unique : (ks : List ℕ) → independent ks ≡ true → (v : ℕ) (se
 setOf-unique ks i v set size e =
     set-unique ks i set (setOf ks v) size (length-setOf ks v) (e ∙ sym (setOf-sum ks v (rw e at (spans-sum ks set))))
 
--- fewer of independent vectors are independent
-independent-cons : (k : ℕ) (ks : List ℕ) → (spans ks k ≡ true → ⊥) → independent ks ≡ true → independent (k ∷ ks) ≡ true
+-- one vector more, that they don't span
+pub independent-cons : (k : ℕ) (ks : List ℕ) → (spans ks k ≡ true → ⊥) → independent ks ≡ true → independent (k ∷ ks) ≡ true
 unfolding independent
 independent-cons k ks h i = go (spans ks k) refl
   where
@@ -172,6 +172,7 @@ independent-cons k ks h i = go (spans ks k) refl
     go true e = absurd (h e)
     go false e = i
 
+-- fewer of independent vectors are independent
 pub select-independent : (bs : List Bool) (ks : List ℕ) → independent ks ≡ true → independent (select bs ks) ≡ true
 unfolding select independent
 select-independent [] ks i = refl

@@ -1,5 +1,5 @@
 -- Sums of vectors over two elements. A vector is a natural number, its coordinates are the number's binary digits.
-use Prim.Native.Nat.{ℕ}
+use Prim.Native.Nat.{ℕ, _*_, _/_, _%_}
 use mathlib.Core.Bool.{Bool, true, false, cond, not, _&&_, _||_}
 use mathlib.Core.List.{List, [], _∷_}
 use lib.Bits.{bitXor}
@@ -16,6 +16,11 @@ sumOf [] set = 0
 sumOf (k ∷ ks) [] = 0
 sumOf (k ∷ ks) (true ∷ set) = k ⊕ sumOf ks set
 sumOf (k ∷ ks) (false ∷ set) = sumOf ks set
+
+-- The sum of those ks that the digits of x name: the digit worth 2^k names the one at place k.
+unfoldable pub sumBy : List ℕ → ℕ → ℕ
+sumBy [] x = 0
+sumBy (k ∷ ks) x = x % 2 * k ⊕ sumBy ks (x / 2)
 
 -- Whether v is the sum of some of ks.
 unfoldable pub spans : List ℕ → ℕ → Bool

@@ -4,25 +4,19 @@ ghost use lib.ListN.{length};
 ghost use Rattle.octets.specs.Octets.{number};
 ghost use Rattle.words.specs.Words.{wordAt, littleOf, littleAt, littleBytes};
 
-fn wide(x: u8) -> u64
-    ensures { λ r. ⌜ r ≡ x ⌝ }
-{
-    x as u64
-}
-
 // Eight bytes, the first highest: one load, and its bytes turned about.
 fn eight(from: &[u8]) -> u64
     requires { ⌜ length (now from) ≡ 8 ⌝ }
     ensures { λ r. ⌜ r ≡ number (now (from .entry)) ⌝ }
 {
-    (wide(from[0]) << 56)
-        | (wide(from[1]) << 48)
-        | (wide(from[2]) << 40)
-        | (wide(from[3]) << 32)
-        | (wide(from[4]) << 24)
-        | (wide(from[5]) << 16)
-        | (wide(from[6]) << 8)
-        | wide(from[7])
+    ((from[0] as u64) << 56)
+        | ((from[1] as u64) << 48)
+        | ((from[2] as u64) << 40)
+        | ((from[3] as u64) << 32)
+        | ((from[4] as u64) << 24)
+        | ((from[5] as u64) << 16)
+        | ((from[6] as u64) << 8)
+        | (from[7] as u64)
 }
 
 // Eight bytes, the first lowest: one load. The compiler joins these before it decides what to inline, and those above only afterwards.
@@ -30,14 +24,14 @@ fn eight_little(from: &[u8]) -> u64
     requires { ⌜ length (now from) ≡ 8 ⌝ }
     ensures { λ r. ⌜ r ≡ littleOf (now (from .entry)) ⌝ }
 {
-    (wide(from[7]) << 56)
-        | (wide(from[6]) << 48)
-        | (wide(from[5]) << 40)
-        | (wide(from[4]) << 32)
-        | (wide(from[3]) << 24)
-        | (wide(from[2]) << 16)
-        | (wide(from[1]) << 8)
-        | wide(from[0])
+    ((from[7] as u64) << 56)
+        | ((from[6] as u64) << 48)
+        | ((from[5] as u64) << 40)
+        | ((from[4] as u64) << 32)
+        | ((from[3] as u64) << 24)
+        | ((from[2] as u64) << 16)
+        | ((from[1] as u64) << 8)
+        | (from[0] as u64)
 }
 
 // The number of the eight bytes from an index on, with zeros for those past the end.

@@ -5,7 +5,7 @@ use Prim.Native.Nat.{ℕ}
 use mathlib.Core.List.{List}
 use Rattle.reading.specs.declared.Numbers.{Numbers}
 use Rattle.reading.specs.Answer.{answerNumbers}
-use Rattle.reader.specs.Finish.{buffers}
+use Rattle.reader.specs.Reader.{buffers}
 use Rattle.both.specs.Both.{Pair}
 use Rattle.both.specs.Parts.{second}
 use Rattle.both.specs.Numbers as both
@@ -14,8 +14,8 @@ use borrow.Author.Needs.{needs}
 use Rattle.boundary.proofs.mekorvat_read_both.Statement.{statement}
 use Rattle.boundary.proofs.mekorvat_read_both.Tie as tie
 
-read-requires : tie.Need-read-requires
-read-requires c κs = search needs
+read-both-requires : tie.Need-read-both-requires
+read-both-requires c κs = search needs
 
 numbers-of-requires : tie.Need-numbers-of-requires
 numbers-of-requires c κs = search needs
@@ -50,7 +50,7 @@ same-length-8 c = search needs
 returns : tie.Need-returns
 unfolding crossedBoth
 returns c =
-    let R = c .before .before .before .before .before .before .before .before .before .before .before .before .before .before .before .before .before .before .read in
+    let R = c .before .before .before .before .before .before .before .before .before .before .before .before .before .before .before .before .before .before .read-both in
     ap₂ (λ (v : Numbers) (ns : List ℕ). crossing (v .number) ns (buffers (R .last .1 .1 .1 .0) (R .last .1 .1 .1 .1 .0) (R .last .1 .1 .1 .1 .1 .0) (R .last .1 .1 .1 .1 .1 .1 .1 .1 .1 .1 .0)) (second (R .last .1 .1 .1 .1 .1 .1 .0) (R .last .1 .1 .1 .1 .1 .1 .1 .0) (R .last .1 .1 .1 .1 .1 .1 .1 .1 .0) (R .last .1 .1 .1 .1 .1 .1 .1 .1 .1 .0)))
     (c .numbers-of2 .ensures) (c .before .numbers-of .ensures)
     ∙ ap (λ (p : Pair). crossing (answerNumbers (p .answers .first) .number) (both.bothNumbers (p .answers)) (p .lent) (p .second)) (R .ensures)
@@ -59,7 +59,7 @@ pub mekorvat-read-both-spec : {M : Type 1} → statement M
 mekorvat-read-both-spec =
     tie.close
     (tie.spec
-    read-requires
+    read-both-requires
     numbers-of-requires
     numbers-of-requires-2
     same-length

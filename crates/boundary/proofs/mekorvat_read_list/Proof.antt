@@ -1,6 +1,6 @@
 -- `mekorvat_read_list` meets its contract: the numbers are those of the reading's answer, and the buffers are its buffers.
 -- Assumes nothing.
-use Rattle.reader.specs.Finish.{buffers}
+use Rattle.reader.specs.Reader.{buffers}
 use mathlib.Core.Path.{ap, _∙_}
 use Rattle.reading.specs.declared.Numbers.{Numbers}
 use Rattle.reading.specs.Answer.{answerNumbers}
@@ -10,8 +10,8 @@ use borrow.Author.Needs.{needs}
 use Rattle.boundary.proofs.mekorvat_read_list.Statement.{statement}
 use Rattle.boundary.proofs.mekorvat_read_list.Tie as tie
 
-read-requires : tie.Need-read-requires
-read-requires c κs = search needs
+read-pairs-requires : tie.Need-read-pairs-requires
+read-pairs-requires c κs = search needs
 
 numbers-of-requires : tie.Need-numbers-of-requires
 numbers-of-requires c κs = search needs
@@ -34,7 +34,7 @@ across numbers lent = record { numbers = numbers; lent = lent }
 returns : tie.Need-returns
 unfolding crossed
 returns c =
-    let read = c .before .before .before .before .before .before .before .before .before .read in
+    let read = c .before .before .before .before .before .before .before .before .before .read-pairs in
     let lent : Lent = buffers (read .last .1 .1 .1 .0) (read .last .1 .1 .1 .1 .0) (read .last .1 .1 .1 .1 .1 .0) (read .last .1 .1 .1 .1 .1 .1 .0) in
     ap (λ (v : Numbers). across v lent) (c .numbers-of .ensures) ∙ ap (λ (o : Outcome). across (answerNumbers (o .answer)) (o .lent)) (read .ensures)
 
@@ -42,7 +42,7 @@ pub mekorvat-read-list-spec : {M : Type 1} → statement M
 mekorvat-read-list-spec =
     tie.close
     (tie.spec
-    read-requires
+    read-pairs-requires
     numbers-of-requires
     same-length
     same-length-2

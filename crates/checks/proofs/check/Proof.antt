@@ -24,15 +24,12 @@ returns-2 : tie.Need-returns-2
 unfolding gate
 returns-2 c = rw (sym (c .before .before .before .shaped .ensures) ∙ not-false (c .before .before .before .shaped .result) (c .before .before .if1 .left)) (rw (sym (c .before .whole .ensures) ∙ not-true (c .before .whole .result) (c .if2 .taken)))
 
-add-m : tie.Need-add-m
-add-m c = search needs
-
-div-m : tie.Need-div-m
-div-m c = search needs
+count-requires : tie.Need-count-requires
+count-requires c κs = search needs
 
 mul-room-fits : tie.Need-mul-room-fits
 mul-room-fits c =
-    let S = c .before .before .before .before in
+    let S = c .before .before .before .before .before in
     let small : S .args .n ≤ 255 = omega arith in
     omega (arith, mul-le-mul-right (S .args .l) small)
 
@@ -42,14 +39,20 @@ room-fits-requires c κs = search needs
 returns-3 : tie.Need-returns-3
 unfolding gate
 returns-3 c =
-    rw (sym (c .before .before .before .before .before .shaped .ensures) ∙ not-false (c .before .before .before .before .before .shaped .result) (c .before .before .before .before .if1 .left))
-    (rw (sym (c .before .before .before .whole .ensures) ∙ not-false (c .before .before .before .whole .result) (c .before .before .if2 .left)) (rw (sym (c .before .room-fits .ensures) ∙ not-true (c .before .room-fits .result) (c .if3 .taken))))
+    let shaped = c .before .before .before .before .before .before .shaped in
+    let whole = c .before .before .before .before .whole in
+    let fits = c .before .room-fits in
+    rw (sym (shaped .ensures) ∙ not-false (shaped .result) (c .before .before .before .before .before .if1 .left))
+    (rw (sym (whole .ensures) ∙ not-false (whole .result) (c .before .before .before .if2 .left)) (rw (rw (c .before .before .count .ensures) at (sym (fits .ensures) ∙ not-true (fits .result) (c .if3 .taken)))))
 
 returns-4 : tie.Need-returns-4
 unfolding gate
 returns-4 c =
-    rw (sym (c .before .before .before .before .before .shaped .ensures) ∙ not-false (c .before .before .before .before .before .shaped .result) (c .before .before .before .before .if1 .left))
-    (rw (sym (c .before .before .before .whole .ensures) ∙ not-false (c .before .before .before .whole .result) (c .before .before .if2 .left)) (rw (sym (c .before .room-fits .ensures) ∙ not-false (c .before .room-fits .result) (c .if3 .left))))
+    let shaped = c .before .before .before .before .before .before .shaped in
+    let whole = c .before .before .before .before .whole in
+    let fits = c .before .room-fits in
+    rw (sym (shaped .ensures) ∙ not-false (shaped .result) (c .before .before .before .before .before .if1 .left))
+    (rw (sym (whole .ensures) ∙ not-false (whole .result) (c .before .before .before .if2 .left)) (rw (rw (c .before .before .count .ensures) at (sym (fits .ensures) ∙ not-false (fits .result) (c .if3 .left)))))
 
 pub check-spec : {M : Type 1} → statement M
 check-spec =
@@ -59,8 +62,7 @@ check-spec =
     returns
     whole-requires
     returns-2
-    add-m
-    div-m
+    count-requires
     mul-room-fits
     room-fits-requires
     returns-3

@@ -1,94 +1,99 @@
 -- `checks::first_stray` meets its contract. The loop's invariant: what is said of the rows from i on is what is to be said of all.
 -- Assumes nothing.
-use mathlib.Core.Path.{_≡_, refl, sym, _∙_}
-use Prim.Native.Nat.{_+_, _-_, _*_, _^_, _≤_}
-use native.Mathlib.Nat.{mul-le-mul-right, suc-mul, div-mul-le-self}
+use mathlib.Core.Path.{_≡_, refl, sym, ap, _∙_}
+use Prim.Native.Nat.{ℕ, _-_, _^_, _≤_, _<_}
 use native.Mathlib.Omega.{arith}
 use borrow.Author.Needs.{needs}
 use lib.Dec.{leb}
-use lib.ListN.{length, getD, drop, length-take, length-drop}
+use lib.ListN.{length, getD, drop}
+use Rattle.octets.specs.Octets.{number}
+use Rattle.octets.proofs.Runs.{known-below}
 use Rattle.rows.specs.Rows.{rowCount, rowsOf, constraint}
+use Rattle.lists.proofs.Rows.{row-length}
 use Rattle.reading.specs.Outcome.{strayFrom}
 use Rattle.checks.specs.Gate.{strayCheck}
-use Rattle.checks.proofs.Straying.{part-asked, stray-here, stray-later, stray-never}
+use Rattle.checks.proofs.Straying.{row-asked, stray-here, stray-later, stray-never, strays-listed, strays-over}
 use Rattle.checks.proofs.first_stray.Statement.{statement}
 use Rattle.checks.proofs.first_stray.Tie as tie
 
 abbrev Inv-loop : tie.InvT-loop
-Inv-loop n l list w m i₀ i = (i ≤ m) × (strayFrom n l i (drop i (rowsOf l list)) ≡ strayFrom n l 0 (rowsOf l list))
+Inv-loop n l list m arrival₀ arrival = strayFrom n l arrival (drop arrival (rowsOf l list)) ≡ strayFrom n l 0 (rowsOf l list)
 
 abbrev μ-loop : tie.MeasureT-loop
-μ-loop n l list w m i₀ i = m - i
+μ-loop n l list m arrival₀ arrival = m - arrival
 
-add-w : tie.Need-add-w Inv-loop μ-loop
-add-w c = omega arith
+count-requires : tie.Need-count-requires Inv-loop μ-loop
+count-requires c κs = tt
 
-div-m : tie.Need-div-m Inv-loop μ-loop
-div-m c = search needs
+returns : tie.Need-returns Inv-loop μ-loop
+unfolding strayCheck rowCount
+returns c =
+    let S = c .before .before .before .args in
+    sym (strays-over (S .n) (S .l) (S .list .now) (omega (arith, c .before .count .ensures, c .if1 .taken)))
 
 loop-holds : tie.Need-loop-holds Inv-loop μ-loop
-loop-holds c = (omega arith, refl)
+loop-holds c = refl
+
+row-requires : tie.Need-row-requires Inv-loop μ-loop
+row-requires c κs = tt
 
 -- the next row is in the list
-room : (c : tie.In-loop Inv-loop μ-loop)
-    → c .before .loop .i * (8 + c .before .before .before .args .l) + (8 + c .before .before .before .args .l) ≤ length (c .before .before .before .args .list .now)
-room c =
-    let S = c .before .before .before .args in
-    omega (arith, mul-le-mul-right (8 + S .l) (c .loop-test .taken), suc-mul (c .before .loop .i) (8 + S .l), div-mul-le-self (length (S .list .now)) (8 + S .l))
+few : (c : tie.In-loop Inv-loop μ-loop) → c .before .loop .arrival < 512
+few c = omega (arith, c .loop-test .taken, c .before .before .if1 .left)
 
-mul-at : tie.Need-mul-at Inv-loop μ-loop
-mul-at c = omega (arith, room c, c .before .before .before .good)
-
-add-end : tie.Need-add-end Inv-loop μ-loop
-add-end c = omega (arith, room c, c .before .before .before .good)
-
-sub-row-strays : tie.Need-sub-row-strays Inv-loop μ-loop
-sub-row-strays c = omega arith
-
-part-row-strays-start : tie.Need-part-row-strays-start Inv-loop μ-loop
-part-row-strays-start c = search needs
-
-part-row-strays-end : tie.Need-part-row-strays-end Inv-loop μ-loop
-part-row-strays-end c = omega (arith, room c)
+inside : (c : tie.In-loop Inv-loop μ-loop) → c .before .loop .arrival < rowCount (c .before .before .before .before .before .args .l) (c .before .before .before .before .before .args .list .now)
+unfolding rowCount
+inside c = omega (arith, c .loop-test .taken, c .before .before .before .count .ensures)
 
 row-strays-requires : tie.Need-row-strays-requires Inv-loop μ-loop
-row-strays-requires c κs = simp (length-take, length-drop) (omega (arith, room (c .before)))
+row-strays-requires c κs =
+    let S = c .before .before .before .before .before .before .args in
+    let i = c .before .before .loop .arrival in
+    omega (arith, ap length (c .row .ensures .0), row-length (S .l) i (S .list .now) (few (c .before)) (inside (c .before)))
 
 -- what was asked of the row's bytes is so of the row
 asked : (c : tie.After-row-strays Inv-loop μ-loop)
-    → c .row-strays .result ≡ leb (2 ^ c .before .before .before .before .before .args .n)
-    (constraint (c .before .before .before .before .before .args .l) (getD (rowsOf (c .before .before .before .before .before .args .l) (c .before .before .before .before .before .args .list .now)) (c .before .before .before .loop .i) 0))
+    → c .row-strays .result ≡ leb (2 ^ c .before .before .before .before .before .before .before .args .n)
+    (constraint (c .before .before .before .before .before .before .before .args .l) (getD (rowsOf (c .before .before .before .before .before .before .before .args .l) (c .before .before .before .before .before .before .before .args .list .now)) (c .before .before .before .loop .arrival) 0))
 asked c =
-    let S = c .before .before .before .before .before .args in
-    let i = c .before .before .before .loop .i in
-    c .row-strays .ensures ∙ part-asked (S .n) (S .l) (S .list .now) i (i * (8 + S .l) + (8 + S .l) - i * (8 + S .l)) (omega arith) (room (c .before .before)) (unfold rowCount in c .before .before .loop-test .taken)
+    let S = c .before .before .before .before .before .before .before .args in
+    let i = c .before .before .before .loop .arrival in
+    let bytes = known-below (S .list .now) (c .before .before .before .before .before .before .shared-slice-known .given) in
+    c .row-strays .ensures ∙ ap (λ row. leb (2 ^ S .n) (constraint (length row - 8) (number row))) (c .before .row .ensures .0)
+    ∙ row-asked (S .n) (S .l) (S .list .now) i bytes (few (c .before .before)) (inside (c .before .before))
 
-returns : tie.Need-returns Inv-loop μ-loop
+-- the rows are not too many
+listed : (c : tie.Else1 Inv-loop μ-loop) → rowCount (c .before .before .before .args .l) (c .before .before .before .args .list .now) ≤ 512
+unfolding rowCount
+listed c = omega (arith, c .before .count .ensures, c .if1 .left)
+
+returns-2 : tie.Need-returns-2 Inv-loop μ-loop
 unfolding strayCheck
-returns c =
-    let S = c .before .before .before .before .before .before .args in
+returns-2 c =
+    let S = c .before .before .before .before .before .before .before .before .args in
     let l = c .before .before .before .before .loop in
-    sym (stray-here (S .n) (S .l) (S .list .now) (l .i) (unfold rowCount in c .before .before .before .loop-test .taken) (sym (asked (c .before)) ∙ c .if1 .taken)) ∙ l .inv .1
+    sym (stray-here (S .n) (S .l) (S .list .now) (l .arrival) (inside (c .before .before .before)) (sym (asked (c .before)) ∙ c .if2 .taken)) ∙ l .inv
+    ∙ sym (strays-listed (S .n) (S .l) (S .list .now) (listed (c .before .before .before .before .before)))
 
-add-i : tie.Need-add-i Inv-loop μ-loop
-add-i c = omega (arith, room (c .before .before .before))
+add-arrival : tie.Need-add-arrival Inv-loop μ-loop
+add-arrival c = omega (arith, few (c .before .before .before))
 
 loop-less : tie.Need-loop-less Inv-loop μ-loop
 loop-less c = omega (arith, c .before .before .before .loop-test .taken)
 
 loop-again : tie.Need-loop-again Inv-loop μ-loop
 loop-again c =
-    let S = c .before .before .before .before .before .before .args in
-    let l = c .before .before .before .before .loop in (
-      omega (arith, c .before .before .before .loop-test .taken),
-      sym (stray-later (S .n) (S .l) (S .list .now) (l .i) (unfold rowCount in c .before .before .before .loop-test .taken) (sym (asked (c .before)) ∙ c .if1 .left)) ∙ l .inv .1,
-    )
+    let S = c .before .before .before .before .before .before .before .before .args in
+    let l = c .before .before .before .before .loop in
+    sym (stray-later (S .n) (S .l) (S .list .now) (l .arrival) (inside (c .before .before .before)) (sym (asked (c .before)) ∙ c .if2 .left)) ∙ l .inv
 
-returns-2 : tie.Need-returns-2 Inv-loop μ-loop
+returns-3 : tie.Need-returns-3 Inv-loop μ-loop
 unfolding strayCheck rowCount
-returns-2 c =
-    let S = c .before .before .before .args in
-    sym (stray-never (S .n) (S .l) (S .list .now) (c .before .loop .i) (c .loop-test .left)) ∙ c .before .loop .inv .1
+returns-3 c =
+    let S = c .before .before .before .before .before .args in
+    let l = c .before .loop in
+    sym (stray-never (S .n) (S .l) (S .list .now) (l .arrival) (omega (arith, c .loop-test .left, c .before .before .before .count .ensures))) ∙ l .inv
+    ∙ sym (strays-listed (S .n) (S .l) (S .list .now) (listed (c .before .before)))
 
 pub first-stray-spec : {M : Type 1} → statement M
 first-stray-spec =
@@ -96,17 +101,13 @@ first-stray-spec =
     (tie.spec
     Inv-loop
     μ-loop
-    add-w
-    div-m
-    loop-holds
-    mul-at
-    add-end
-    sub-row-strays
-    part-row-strays-start
-    part-row-strays-end
-    row-strays-requires
+    count-requires
     returns
-    add-i
+    loop-holds
+    row-requires
+    row-strays-requires
+    returns-2
+    add-arrival
     loop-less
     loop-again
-    returns-2)
+    returns-3)

@@ -8,7 +8,7 @@ use borrow.Author.Needs.{needs}
 use lib.ListN.{length}
 use Rattle.doubles.specs.Doubles.{pairsIn}
 use Rattle.doubles.proofs.Doubles.{length-pairs}
-use Rattle.choose.proofs.Counts.{Counting, counting-start, counting-more, counting-end}
+use Rattle.space.proofs.Counting.{Counting, counting-start, counting-more, counting-end}
 use Rattle.choose.proofs.reached.Statement.{statement}
 use Rattle.choose.proofs.reached.Tie as tie
 

@@ -1,6 +1,6 @@
 -- `draw::constraint` meets its contract, in each arm by the test that led there; the bit that stands for a zero lies below 64.
 -- Assumes nothing.
-use mathlib.Core.Path.{_≡_}
+use mathlib.Core.Path.{_≡_, sym, _∙_}
 use Prim.Native.Nat.{_%_, _^_, _<_}
 use native.Mathlib.Nat.{mod-lt}
 use native.Mathlib.Omega.{arith}
@@ -23,6 +23,10 @@ low-requires c κs = search needs
 rem-result : tie.Need-rem-result
 rem-result c = search needs
 
+-- the digits drawn
+low-is : (c : tie.After-low) → c .low .result ≡ twoDraws (settled (c .before .before .before .args .seed)) % 2 ^ c .before .before .before .args .n
+low-is c = c .low .ensures ∙ rw (c .before .two-draws .ensures, c .before .before .settled .ensures)
+
 bit-lt : (c : tie.Then1) → c .before .before .before .before .args .seed % c .before .before .before .before .args .n < 64
 bit-lt c =
     let start = c .before .before .before .before in
@@ -38,15 +42,11 @@ returns : tie.Need-returns
 unfolding constraint
 returns c =
     let start = c .before .before .before .before .args in
-    let zero-is : twoDraws (settled (start .seed)) % 2 ^ start .n ≡ 0 = cc in
-    rw (zero-is, shl-one (start .seed % start .n) 64 (bit-lt c))
+    rw (sym (low-is (c .before)) ∙ c .if1 .taken, shl-one (start .seed % start .n) 64 (bit-lt c))
 
 returns-2 : tie.Need-returns-2
 unfolding constraint
-returns-2 c =
-    let start = c .before .before .before .before .args in
-    let low-is : c .before .low .result ≡ twoDraws (settled (start .seed)) % 2 ^ start .n = cc in
-    rw (← low-is, ne-eqb (c .before .low .result) 0 (c .if1 .left))
+returns-2 c = rw (← low-is (c .before), ne-eqb (c .before .low .result) 0 (c .if1 .left))
 
 pub constraint-spec : {M : Type 1} → statement M
 constraint-spec =

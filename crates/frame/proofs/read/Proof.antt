@@ -3,9 +3,10 @@
 use mathlib.Core.Path.{_≡_, sym, _∙_}
 use denote.Ref.{now}
 use borrow.Author.Needs.{needs}
-use Rattle.frame.specs.declared.fields.Found.the-variants.{Whole}
+use Rattle.field.specs.declared.Found.the-variants.{Whole}
 use Rattle.frame.specs.Layout.{pageAt}
-use Rattle.frame.specs.Reading.{expected, behind, first, reading}
+use Rattle.field.specs.Expected.{expected}
+use Rattle.frame.specs.Reading.{behind, first, reading}
 use Rattle.frame.proofs.Whole.{expected-ends}
 use Rattle.frame.proofs.read.Statement.{statement}
 use Rattle.frame.proofs.read.Tie as tie
@@ -21,7 +22,10 @@ enum-known-found c = search needs
 
 returns : tie.Need-returns
 unfolding reading first behind
-returns c = rw (sym (c .before .before .before .expect .ensures) ∙ c .before .found .given .1)
+returns c = rw (sym (c .before .before .before .before .expect .ensures) ∙ c .before .before .found .given .1) (c .refuse .ensures)
+
+refuse-requires : tie.Need-refuse-requires
+refuse-requires c κs = search needs
 
 enum-told : tie.Need-enum-told
 enum-told c = search needs
@@ -36,4 +40,4 @@ returns-2 c = rw (page-whole (c .before)) (c .from-shape .ensures)
 pub read-spec : {M : Type 1} → statement M
 read-spec =
     tie.close
-    (tie.spec expect-requires enum-known-found returns enum-told from-shape-requires returns-2)
+    (tie.spec expect-requires enum-known-found refuse-requires returns enum-told from-shape-requires returns-2)

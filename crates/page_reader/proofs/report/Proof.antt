@@ -2,6 +2,7 @@
 -- Assumes nothing.
 use mathlib.Core.Path.{sym}
 use native.Mathlib.Nat.{le-trans}
+use Prim.Native.Nat.{_*_, _≤_}
 use lib.Seq.{length-take-le}
 use Rattle.lines.proofs.Readable.{rows-fit, page-fits}
 use native.Mathlib.Omega.{arith}
@@ -21,22 +22,22 @@ no-page-requires c κs = search needs
 returns : tie.Need-returns
 returns c = search needs
 
-cast-end : tie.Need-cast-end
-cast-end c = search needs
+stride-requires : tie.Need-stride-requires
+stride-requires c κs = search needs
 
-add-end : tie.Need-add-end
-add-end c = search needs
+-- the rows fit
+fit : (c : tie.After-stride) → c .before .before .before .before .before .args .sheet .rows * c .stride .result ≤ 20480
+fit c =
+    let start = c .before .before .before .before .before in
+    rw (c .stride .ensures) (rows-fit (start .args .sheet) (start .pre .0) _ (c .before .before .expected .given .1))
 
 mul-end : tie.Need-mul-end
-mul-end c =
-    let start = c .before .before .before .before .before .before in
-    let fits = rows-fit (start .args .sheet) (start .pre .0) _ (c .before .before .before .expected .given .1) in
-    omega arith
+mul-end c = omega (arith, fit (c .before))
 
 slice-aggregate-read-rows : tie.Need-slice-aggregate-read-rows
 slice-aggregate-read-rows c =
     let start = c .before .before .before .before .before .before .before in
-    sym (length-take-le _ _ (le-trans (rows-fit (start .args .sheet) (start .pre .0) _ (c .before .before .before .before .expected .given .1)) (start .pre .1)))
+    sym (length-take-le _ (start .args .list .now) (le-trans (fit (c .before .before)) (start .pre .1)))
 
 read-rows-requires : tie.Need-read-rows-requires
 read-rows-requires c κs =
@@ -54,8 +55,7 @@ report-spec =
     enum-told
     no-page-requires
     returns
-    cast-end
-    add-end
+    stride-requires
     mul-end
     slice-aggregate-read-rows
     read-rows-requires

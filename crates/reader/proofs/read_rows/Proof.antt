@@ -1,80 +1,27 @@
--- `reader::read_rows` meets its contract: the steps leave what the definition says, and the scratch is cleared last.
+-- `reader::read_rows` meets its contract: a list that passes is eliminated in list order, and the tail ends as the reading does.
 -- Assumes nothing.
-use mathlib.Core.Path.{_≡_, sym, _∙_}
-use mathlib.Core.List.{List, _++_}
-use Prim.Native.Nat.{ℕ, _≤_}
-use native.Mathlib.Nat.{le-of-eq}
+use mathlib.Core.Path.{sym, _∙_}
+use Rattle.octets.proofs.Runs.{known-below}
+use Rattle.reader.proofs.Rows.{misfit-never, rows-read}
 use native.Mathlib.Omega.{arith}
 use borrow.Author.Needs.{needs}
-use lib.ListN.{length, take, drop}
-use lib.Seq.{length-take-le}
-use Rattle.reading.specs.Outcome.{scratchBytes}
-use Rattle.echelon.specs.State.{stateBytes}
-use Rattle.solve.specs.Solve.{slotBytes}
-use Rattle.reader.proofs.Ending.{room, passed-listed, is-solvable, read-ends, part-long, cleared}
 use Rattle.reader.proofs.read_rows.Statement.{statement}
 use Rattle.reader.proofs.read_rows.Tie as tie
 
--- what the checks give
-wide : (S : tie.Start) → 32768 ≤ length (S .args .scratch .now)
-unfolding scratchBytes
-wide S = room _ _ _ _ (S .pre) .scratch
+in-list-order-requires : tie.Need-in-list-order-requires
+in-list-order-requires c κs = search needs
 
-slice-relend-prefix-sift : tie.Need-slice-relend-prefix-sift
-slice-relend-prefix-sift c = omega (arith, wide (c .before .before .before .before .before .before .before))
+eliminate-requires : tie.Need-eliminate-requires
+eliminate-requires c κs = search needs
 
-slice-aggregate-sift : tie.Need-slice-aggregate-sift
-slice-aggregate-sift c = sym (length-take-le 29824 (c .before .before .before .before .before .before .before .before .args .scratch .now) (omega (arith, wide (c .before .before .before .before .before .before .before .before))))
+enum-known-rank : tie.Need-enum-known-rank
+enum-known-rank c = search needs
 
-sift-requires : tie.Need-sift-requires
-unfolding stateBytes
-sift-requires c κs =
-    let S = c .before .before .before .before .before .before .before .before in
-    (passed-listed _ _ _ _ (S .pre), le-of-eq (sym (length-take-le 29824 (S .args .scratch .now) (omega (arith, wide S)))), room _ _ _ _ (S .pre) .uses, room _ _ _ _ (S .pre) .roles)
+finish-requires : tie.Need-finish-requires
+finish-requires c κs = search needs
 
--- the scratch after the first part came back
-first-long : (c : tie.After-sift) → length (c .sift .last .1 .1 .1 .1 .1 .0 ++ drop 29824 (c .before .before .before .before .before .before .before .before .before .args .scratch .now)) ≡ length (c .before .before .before .before .before .before .before .before .before .args .scratch .now)
-first-long c = part-long 29824 (c .sift .last .1 .1 .1 .1 .1 .0) (c .before .before .before .before .before .before .before .before .before .args .scratch .now) (omega (arith, wide (c .before .before .before .before .before .before .before .before .before))) (c .sift .kept .1 .1 .1 .1 .1 .0)
-
-slice-relend-prefix-conclude : tie.Need-slice-relend-prefix-conclude
-slice-relend-prefix-conclude c = omega (arith, first-long (c .before .before .before .before .before .before .before), wide (c .before .before .before .before .before .before .before .before .before .before .before .before .before .before .before .before))
-
-slice-aggregate-conclude : tie.Need-slice-aggregate-conclude
-slice-aggregate-conclude c =
-    let S = c .before .before .before .before .before .before .before .before .before .before .before .before .before .before .before .before .before in
-    sym (length-take-le 5632 (c .before .before .before .before .before .before .before .before .sift .last .1 .1 .1 .1 .1 .0 ++ drop 29824 (S .args .scratch .now)) (omega (arith, first-long (c .before .before .before .before .before .before .before .before), wide S)))
-
-conclude-requires : tie.Need-conclude-requires
-unfolding slotBytes
-conclude-requires c κs =
-    let S = c .before .before .before .before .before .before .before .before .before .before .before .before .before .before .before .before .before .before in
-    let K = c .before .before .before .before .before .before .before .before .before .sift in
-    let slots : List ℕ = take 5632 (K .last .1 .1 .1 .1 .1 .0 ++ drop 29824 (S .args .scratch .now)) in
-    let long : 5632 ≤ length slots =
-    le-of-eq (sym (length-take-le 5632 (K .last .1 .1 .1 .1 .1 .0 ++ drop 29824 (S .args .scratch .now)) (omega (arith, first-long (c .before .before .before .before .before .before .before .before .before), wide S)))) in
-    λ k. is-solvable _ _ _ _ (S .pre) _ _ _ _ (K .ensures) k slots long (K .kept .1 .1 .1 .1 .0)
-
--- and after the second
-second-long : (c : tie.After-conclude)
-    → length (c .conclude .last .1 .1 .1 .1 .1 .1 .0 ++ drop 5632 (c .before .before .before .before .before .before .before .before .before .before .sift .last .1 .1 .1 .1 .1 .0 ++ drop 29824 (c .before .before .before .before .before .before .before .before .before .before .before .before .before .before .before .before .before .before .before .args .scratch .now)))
-    ≡ length (c .before .before .before .before .before .before .before .before .before .before .before .before .before .before .before .before .before .before .before .args .scratch .now)
-second-long c =
-    let S = c .before .before .before .before .before .before .before .before .before .before .before .before .before .before .before .before .before .before .before in
-    let X : List ℕ = c .before .before .before .before .before .before .before .before .before .before .sift .last .1 .1 .1 .1 .1 .0 ++ drop 29824 (S .args .scratch .now) in
-    part-long 5632 (c .conclude .last .1 .1 .1 .1 .1 .1 .0) X (omega (arith, first-long (c .before .before .before .before .before .before .before .before .before .before), wide S)) (c .conclude .kept .1 .1 .1 .1 .1 .1 .0) ∙ first-long (c .before .before .before .before .before .before .before .before .before .before)
-
-slice-relend-prefix-clear : tie.Need-slice-relend-prefix-clear
-slice-relend-prefix-clear c = omega (arith, second-long (c .before .before .before .before), wide (c .before .before .before .before .before .before .before .before .before .before .before .before .before .before .before .before .before .before .before .before .before .before .before))
-
-slice-aggregate-clear : tie.Need-slice-aggregate-clear
-slice-aggregate-clear c =
-    let S = c .before .before .before .before .before .before .before .before .before .before .before .before .before .before .before .before .before .before .before .before .before .before .before .before in
-    let C = c .before .before .before .before .before .conclude in
-    let X : List ℕ = C .last .1 .1 .1 .1 .1 .1 .0 ++ drop 5632 (c .before .before .before .before .before .before .before .before .before .before .before .before .before .before .before .sift .last .1 .1 .1 .1 .1 .0 ++ drop 29824 (S .args .scratch .now)) in
-    sym (length-take-le _ X (omega (arith, second-long (c .before .before .before .before .before), wide S)))
-
-clear-requires : tie.Need-clear-requires
-clear-requires c κs = search needs
+enum-told : tie.Need-enum-told
+enum-told c = search needs
 
 same-length : tie.Need-same-length
 same-length c = search needs
@@ -85,38 +32,41 @@ same-length-2 c = search needs
 same-length-3 : tie.Need-same-length-3
 same-length-3 c = search needs
 
-same-length-4 : tie.Need-same-length-4
-same-length-4 c =
-    let S = c .before .before .before .before .before .before .before .before .before .before .before .before .before .before .before .before .before .before .before .before .before .before .before .before .before .before .before in
-    let C = c .before .before .before .before .before .before .before .before .conclude in
-    let X : List ℕ = C .last .1 .1 .1 .1 .1 .1 .0 ++ drop 5632 (c .before .before .before .before .before .before .before .before .before .before .before .before .before .before .before .before .before .before .sift .last .1 .1 .1 .1 .1 .0 ++ drop 29824 (S .args .scratch .now)) in
-    part-long 32768 (c .before .before .clear .last .0) X (omega (arith, second-long (c .before .before .before .before .before .before .before .before), wide S)) (c .before .before .clear .kept .0) ∙ second-long (c .before .before .before .before .before .before .before .before)
-
 returns : tie.Need-returns
 returns c =
-    let S = c .before .before .before .before .before .before .before .before .before .before .before .before .before .before .before .before .before .before .before .before .before .before .before .before .before .before .before in
-    let K = c .before .before .before .before .before .before .before .before .before .before .before .before .before .before .before .before .before .before .sift in
-    let C = c .before .before .before .before .before .before .before .before .conclude in
-    let Z = c .before .before .clear in
-    read-ends _ _ _ _ (S .pre) _ _ _ _ (K .ensures) (C .result) (C .last .1 .1 .1 .1 .1 .1 .1 .0) _ (C .ensures)
-    (cleared (S .args .scratch .now) (K .last .1 .1 .1 .1 .1 .0) (C .last .1 .1 .1 .1 .1 .1 .0) (Z .last .0) 29824 5632 (wide S) (omega arith) (omega arith)
-    (K .kept .1 .1 .1 .1 .1 .0) (C .kept .1 .1 .1 .1 .1 .1 .0) (Z .ensures))
+    let S = c .before .before .before .before .before .before .before .before .before .before .before .before .before .before .before .before .before .before .before .before .before .before .before .before .before in
+    let O = c .before .before .before .before .before .before .before .before .before .before .before .before .before .before .before .before .before .before .before .in-list-order in
+    let E = c .before .before .before .before .before .before .before .before .before .before .before .before .before .before .before .eliminate in
+    let F = c .before .before .before .before .before .before .finish in
+    let bytes = known-below (S .args .list .now) (c .before .before .before .before .before .before .before .before .before .before .before .before .before .before .before .before .before .before .before .before .before .before .before .before .shared-slice-known .given) in
+    let low = known-below (E .last .0) (c .before .before .before .before .before .before .before .before .before .before .before .before .before .slice-known5 .given) in
+    rows-read (S .args .n) (S .args .l) (S .args .list .now) (S .args .page .now) (S .args .roles .now) (S .args .state .now) (S .pre) bytes
+    (O .result) (O .ensures .0) (O .last .1 .1 .0) (O .ensures .1) (c .before .before .before .before .before .before .before .before .before .before .before .rank .given .0 .0) (sym (c .before .before .before .before .before .before .before .before .before .before .before .rank .given .1) ∙ E .ensures .0) (E .last .0) (E .ensures .1) low
+    (F .result) (F .last .1 .1 .1 .1 .1 .0) (F .last .1 .1 .1 .1 .1 .1 .1 .0) (F .last .1 .1 .1 .1 .1 .1 .0) (F .ensures .0) (F .ensures .1)
+
+same-length-4 : tie.Need-same-length-4
+same-length-4 c = search needs
+
+returns-2 : tie.Need-returns-2
+returns-2 c =
+    let S = c .before .before .before .before .before .before .before .before .before .before .before .before .before .before in
+    let O = c .before .before .before .before .before .before .before .before .in-list-order in
+    let bytes = known-below (S .args .list .now) (c .before .before .before .before .before .before .before .before .before .before .before .before .before .shared-slice-known .given) in
+    misfit-never (S .args .n) (S .args .l) (S .args .list .now) (S .args .page .now) (S .args .roles .now) (S .args .state .now) (S .pre) bytes
+    (O .result) (O .ensures .0) (O .last .1 .1 .0) (O .ensures .1) (sym (c .enum-told .given .1) ∙ c .before .before .before .before .eliminate .ensures .0)
 
 pub read-rows-spec : {M : Type 1} → statement M
 read-rows-spec =
     tie.close
     (tie.spec
-    slice-relend-prefix-sift
-    slice-aggregate-sift
-    sift-requires
-    slice-relend-prefix-conclude
-    slice-aggregate-conclude
-    conclude-requires
-    slice-relend-prefix-clear
-    slice-aggregate-clear
-    clear-requires
+    in-list-order-requires
+    eliminate-requires
+    enum-known-rank
+    finish-requires
+    enum-told
     same-length
     same-length-2
     same-length-3
+    returns
     same-length-4
-    returns)
+    returns-2)

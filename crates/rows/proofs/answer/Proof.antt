@@ -37,19 +37,19 @@ strays-requires c κs = tt
 returns-3 : tie.Need-returns-3
 returns-3 c = sym (answer-stray _ _ _ _ _ (good (c .before .before .before)) (c .before .before .if2 .left) (sym (c .before .strays .ensures) ∙ c .if3 .taken))
 
-add-if4 : tie.Need-add-if4
-add-if4 c = search needs
+stride-requires : tie.Need-stride-requires
+stride-requires c κs = tt
 
 returns-4 : tie.Need-returns-4
 returns-4 c =
-    let p = c .before .before in
-    sym (answer-room _ _ _ _ _ (good (p .before .before)) (p .before .if2 .left) (sym (p .strays .ensures) ∙ c .before .if3 .left) (omega arith))
+    let p = c .before .before .before in
+    sym (answer-room _ _ _ _ _ (good (p .before .before)) (p .before .if2 .left) (sym (p .strays .ensures) ∙ c .before .before .if3 .left) (omega (arith, c .before .stride .ensures, c .if4 .taken)))
 
 returns-5 : tie.Need-returns-5
 returns-5 c =
-    let p = c .before .before in
-    sym (answer-row _ _ _ _ _ (good (p .before .before)) (p .before .if2 .left) (sym (p .strays .ensures) ∙ c .before .if3 .left) (omega arith))
+    let p = c .before .before .before in
+    sym (answer-row _ _ _ _ _ (good (p .before .before)) (p .before .if2 .left) (sym (p .strays .ensures) ∙ c .before .before .if3 .left) (omega (arith, c .before .stride .ensures, c .if4 .left)))
 
 pub answer-spec : {M : Type 1} → statement M
 answer-spec =
-    tie.close (tie.spec shaped-requires returns mul-if2 returns-2 strays-requires returns-3 add-if4 returns-4 returns-5)
+    tie.close (tie.spec shaped-requires returns mul-if2 returns-2 strays-requires returns-3 stride-requires returns-4 returns-5)

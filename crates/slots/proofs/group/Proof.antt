@@ -129,14 +129,14 @@ mul-at c = omega (arith, fits (c .before) (c .if1 .left))
 add-e : tie.Need-add-e Inv-loop μ-loop
 add-e c = omega (arith, fits (c .before) (c .if1 .left))
 
-sub-word : tie.Need-sub-word Inv-loop μ-loop
-sub-word c = omega arith
+sub-slot : tie.Need-sub-slot Inv-loop μ-loop
+sub-slot c = omega arith
 
-part-word-start : tie.Need-part-word-start Inv-loop μ-loop
-part-word-start c = omega arith
+part-slot-start : tie.Need-part-slot-start Inv-loop μ-loop
+part-slot-start c = omega arith
 
-part-word-end : tie.Need-part-word-end Inv-loop μ-loop
-part-word-end c = room (c .before) (c .if1 .left)
+part-slot-end : tie.Need-part-slot-end Inv-loop μ-loop
+part-slot-end c = room (c .before) (c .if1 .left)
 
 word-requires-2 : tie.Need-word-requires-2 Inv-loop μ-loop
 word-requires-2 c κs = tt
@@ -161,33 +161,24 @@ returns-2 c =
     (turn-stop (S t .args .key) (W t) (ss t) (fit (S t)) (known t) (whole t) (S t .args .g) (work t) (x t) (t .before .before .loop .inv) (t .before .loop-test .taken) (t .top .result) (t .top .ensures) h
     (sym (tested (c .before)) ∙ not-true (c .before .has .result) (c .if2 .taken)))
 
-sub-add : tie.Need-sub-add Inv-loop μ-loop
-sub-add c = omega arith
-
-part-add-start : tie.Need-part-add-start Inv-loop μ-loop
-part-add-start c = omega arith
-
-part-add-end : tie.Need-part-add-end Inv-loop μ-loop
-part-add-end c = room (c .before .before .before .before .before .before) (c .before .before .before .before .before .if1 .left)
-
 add-requires : tie.Need-add-requires Inv-loop μ-loop
 add-requires c κs = tt
 
 behind-requires : tie.Need-behind-requires Inv-loop μ-loop
-behind-requires c κs = small (c .before .before .before .before .before .before .before .before .before .before)
+behind-requires c κs = small (c .before .before .before .before .before .before .before .before .before)
 
 loop-less : tie.Need-loop-less Inv-loop μ-loop
 loop-less c =
-    let t = c .before .before .before .before .before .before .before .before .before .before .before in
+    let t = c .before .before .before .before .before .before .before .before .before .before in
     rw (c .behind .ensures) (lt-of-lt-of-le (mod-lt _ (pow-pos (t .top .result))) (lower t))
 
 loop-again : tie.Need-loop-again Inv-loop μ-loop
 loop-again c =
-    let has = c .before .before .before .before .before .before .before in
+    let has = c .before .before .before .before .before .before in
     let t = has .before .before .before .before in
     let h = has .before .before .before .if1 .left in
     rw (c .behind .ensures, has .before .word2 .ensures, c .before .before .before .add .ensures, part-is t h)
-    (more t h (sym (tested has) ∙ not-false (has .has .result) (c .before .before .before .before .before .before .if2 .left)))
+    (more t h (sym (tested has) ∙ not-false (has .has .result) (c .before .before .before .before .before .if2 .left)))
 
 mul-least : tie.Need-mul-least Inv-loop μ-loop
 mul-least c = omega (arith, fit (c .before .before .before .before .before .before), c .before .before .before .before .before .before .pre .1)
@@ -227,16 +218,13 @@ group-spec =
     returns
     mul-at
     add-e
-    sub-word
-    part-word-start
-    part-word-end
+    sub-slot
+    part-slot-start
+    part-slot-end
     word-requires-2
     has-requires
     same-length-2
     returns-2
-    sub-add
-    part-add-start
-    part-add-end
     add-requires
     behind-requires
     loop-less

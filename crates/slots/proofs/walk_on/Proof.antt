@@ -4,7 +4,7 @@ use mathlib.Core.Path.{_≡_, sym, ap, _∙_}
 use mathlib.Core.Bool.{true, false}
 use mathlib.Core.List.{List}
 use Prim.Native.Nat.{ℕ, _+_, _-_, _*_, _%_, _^_, _≤_, _<_}
-use native.Mathlib.Nat.{mod-lt, add-sub-cancel-left, lt-of-lt-of-le}
+use native.Mathlib.Nat.{mod-lt, lt-of-lt-of-le}
 use native.Mathlib.Omega.{arith}
 use lib.Bits.{bitXor}
 use lib.Pow.{pow-pos}
@@ -89,10 +89,6 @@ module _ (c : tie.After-top Inv-loop μ-loop) where
     room : slot-at * 80 + 80 ≤ length ss
     room = turn-room (S .args .key) 80 ss (fit S) known whole (S .args .g) work x (c .before .before .loop .inv) (c .before .loop-test .taken) (c .top .result) (c .top .ensures) h
 
-    -- the part that is lent is the slot
-    part-is : take (slot-at * 80 + 80 - slot-at * 80) (drop (slot-at * 80) ss) ≡ slot
-    part-is = rw (add-sub-cancel-left (slot-at * 80) 80)
-
     fits : slot-at * 80 + 80 < 2 ^ 64
     fits = slot-end (S .args .key) 80 (length ss) slot-at (fit S) h
 
@@ -126,38 +122,11 @@ returns c =
     (rw (long (S t)) (turn-past (S t .args .key) 80 (ss t) (fit (S t)) (known t) (whole t) (S t .args .g) (work t) (x t) (t .before .before .loop .inv) (t .before .loop-test .taken) (t .top .result) (t .top .ensures) (c .if1 .taken)))
     (omega (arith, small t, c .if1 .taken))
 
-mul-h : tie.Need-mul-h Inv-loop μ-loop
-mul-h c = omega (arith, small (c .before))
+head-of-requires : tie.Need-head-of-requires Inv-loop μ-loop
+head-of-requires c κs = (small (c .before), S (c .before) .pre .2)
 
-add-i : tie.Need-add-i Inv-loop μ-loop
-add-i c = omega (arith, small (c .before))
-
-sub-little : tie.Need-sub-little Inv-loop μ-loop
-sub-little c = omega arith
-
-part-little-start : tie.Need-part-little-start Inv-loop μ-loop
-part-little-start c = omega arith
-
-part-little-end : tie.Need-part-little-end Inv-loop μ-loop
-part-little-end c = omega (arith, small (c .before), S (c .before) .pre .2)
-
-little-requires : tie.Need-little-requires Inv-loop μ-loop
-little-requires c κs = tt
-
-mul-at : tie.Need-mul-at Inv-loop μ-loop
-mul-at c = omega (arith, fits (c .before .before .before) (c .before .before .if1 .left))
-
-add-e : tie.Need-add-e Inv-loop μ-loop
-add-e c = omega (arith, fits (c .before .before .before) (c .before .before .if1 .left))
-
-sub-word : tie.Need-sub-word Inv-loop μ-loop
-sub-word c = omega arith
-
-part-word-start : tie.Need-part-word-start Inv-loop μ-loop
-part-word-start c = omega arith
-
-part-word-end : tie.Need-part-word-end Inv-loop μ-loop
-part-word-end c = room (c .before .before .before) (c .before .before .if1 .left)
+slot-of-requires : tie.Need-slot-of-requires Inv-loop μ-loop
+slot-of-requires c κs = (room (c .before .before) (c .before .if1 .left), fits (c .before .before) (c .before .if1 .left))
 
 word-requires : tie.Need-word-requires Inv-loop μ-loop
 word-requires c κs = tt
@@ -167,14 +136,14 @@ unfolding Walked
 returns-2 c = tt
 
 shr-if3 : tie.Need-shr-if3 Inv-loop μ-loop
-shr-if3 c = small (c .before .before .before .before .before .before)
+shr-if3 c = small (c .before .before .before .before .before)
 
 has-requires : tie.Need-has-requires Inv-loop μ-loop
-has-requires c κs = small (c .before .before .before .before .before .before .before)
+has-requires c κs = small (c .before .before .before .before .before .before)
 
 -- a head that is followed is the slot's word
-head-is : (c : tie.Else2 Inv-loop μ-loop) → c .before .before .before .little .result ≡ wordAt (S (c .before .before .before .before .before .before) .args .g) (slot (c .before .before .before .before .before .before))
-head-is c = c .if2 .left ∙ c .before .word .ensures ∙ rw (part-is (c .before .before .before .before .before .before) (c .before .before .before .before .before .if1 .left))
+head-is : (c : tie.Else2 Inv-loop μ-loop) → c .before .before .before .head-of .result ≡ wordAt (S (c .before .before .before .before .before) .args .g) (slot (c .before .before .before .before .before))
+head-is c = c .if2 .left ∙ c .before .word .ensures ∙ rw (c .before .before .slot-of .ensures)
 
 returns-3 : tie.Need-returns-3 Inv-loop μ-loop
 unfolding Walked
@@ -183,21 +152,12 @@ returns-3 c = tt
 returns-4 : tie.Need-returns-4 Inv-loop μ-loop
 unfolding Walked
 returns-4 c =
-    let t = c .before .before .before .before .before .before .before .before .before in
-    let h = c .before .before .before .before .before .before .before .before .if1 .left in
+    let t = c .before .before .before .before .before .before .before .before in
+    let h = c .before .before .before .before .before .before .before .if1 .left in
     let none : digit (t .top .result) (wordAt (S t .args .g) (slot t)) ≡ false =
     ap (digit (t .top .result)) (sym (head-is (c .before .before .before))) ∙ sym (c .before .has .ensures) ∙ c .if4 .left in
     grouped-stop (S t .args .key) (ss t) (before (S t)) (work t) (S t .args .g) (slot-at t) h (omega (arith, small t))
     (rw (long (S t)) (turn-stop (S t .args .key) 80 (ss t) (fit (S t)) (known t) (whole t) (S t .args .g) (work t) (x t) (t .before .before .loop .inv) (t .before .loop-test .taken) (t .top .result) (t .top .ensures) h none))
-
-sub-load : tie.Need-sub-load Inv-loop μ-loop
-sub-load c = omega arith
-
-part-load-start : tie.Need-part-load-start Inv-loop μ-loop
-part-load-start c = omega arith
-
-part-load-end : tie.Need-part-load-end Inv-loop μ-loop
-part-load-end c = room (c .before .before .before .before .before .before .before) (c .before .before .before .before .before .before .if1 .left)
 
 load-requires : tie.Need-load-requires Inv-loop μ-loop
 load-requires c κs = tt
@@ -208,25 +168,26 @@ plus-requires c κs = tt
 -- the slot has no digit before this one, so the sum has those behind it
 abbrev Top : (c : tie.Else3 Inv-loop μ-loop) → Type 0
 Top c =
-    let t = c .before .before .before .before .before .before .before in
-    (digit (t .top .result) (c .before .before .before .before .little .result) ≡ true) × (bitXor (x t) (c .before .before .before .before .little .result) % 2 ^ t .top .result ≡ bitXor (x t) (c .before .before .before .before .little .result))
+    let t = c .before .before .before .before .before .before in
+    let y = c .before .before .before .before .head-of .result in
+    (digit (t .top .result) y ≡ true) × (bitXor (x t) y % 2 ^ t .top .result ≡ bitXor (x t) y)
 
 top : (c : tie.Else3 Inv-loop μ-loop) → Top c
 top c =
-    let t = c .before .before .before .before .before .before .before in
+    let t = c .before .before .before .before .before .before in
     turn-top (S t .args .key) 80 (ss t) (fit (S t)) (known t) (whole t) (S t .args .g) (work t) (x t) (t .before .before .loop .inv) (t .before .loop-test .taken) (t .top .result) (t .top .ensures)
-    (c .before .before .before .before .little .result) (c .if3 .left)
+    (c .before .before .before .before .head-of .result) (c .if3 .left)
 
 loop-less : tie.Need-loop-less Inv-loop μ-loop
-loop-less c = let t = c .before .before .before .before .before .before .before .before .before .before in lt-of-lt-of-le (rw (top (c .before .before .before) .1) at (mod-lt (bitXor (x t) (c .before .before .before .before .before .before .before .little .result)) (pow-pos (t .top .result)))) (lower t)
+loop-less c = let t = c .before .before .before .before .before .before .before .before in lt-of-lt-of-le (rw (top (c .before .before) .1) at (mod-lt (bitXor (x t) (c .before .before .before .before .before .before .head-of .result)) (pow-pos (t .top .result)))) (lower t)
 
 loop-again : tie.Need-loop-again Inv-loop μ-loop
 loop-again c =
-    let t = c .before .before .before .before .before .before .before .before .before .before in
-    let h = c .before .before .before .before .before .before .before .before .before .if1 .left in
-    let T = top (c .before .before .before) in
-    let is = head-is (c .before .before .before .before) in
-    rw (sym (T .1), is, c .plus .ensures, c .before .load .ensures) (rw (part-is t h, added t h) (more t h (rw is at (T .0))))
+    let t = c .before .before .before .before .before .before .before .before in
+    let h = c .before .before .before .before .before .before .before .if1 .left in
+    let T = top (c .before .before) in
+    let is = head-is (c .before .before .before) in
+    rw (sym (T .1), is, c .plus .ensures, c .before .load .ensures) (rw (c .before .before .before .before .before .slot-of .ensures, added t h) (more t h (rw is at (T .0))))
 
 mul-least : tie.Need-mul-least Inv-loop μ-loop
 mul-least c = omega (arith, fit (c .before .before .before .before), c .before .before .before .before .pre .1)
@@ -259,26 +220,14 @@ walk-on-spec =
     add-u
     sub-u
     returns
-    mul-h
-    add-i
-    sub-little
-    part-little-start
-    part-little-end
-    little-requires
-    mul-at
-    add-e
-    sub-word
-    part-word-start
-    part-word-end
+    head-of-requires
+    slot-of-requires
     word-requires
     returns-2
     shr-if3
     has-requires
     returns-3
     returns-4
-    sub-load
-    part-load-start
-    part-load-end
     load-requires
     plus-requires
     loop-less

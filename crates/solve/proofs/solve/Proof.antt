@@ -1,4 +1,4 @@
--- `solve` meets its contract: where the arguments fit, what the rows do in the cleared slots decides, and nothing is written else.
+-- `solve::solve` meets its contract: where the arguments fit, what the rows do in the cleared slots decides, and nothing is written else.
 -- Assumes nothing.
 use mathlib.Core.Path.{sym}
 use mathlib.Core.List.{_++_}
@@ -7,8 +7,8 @@ use native.Mathlib.Omega.{arith}
 use borrow.Author.Needs.{needs}
 use lib.ListN.{length, drop}
 use lib.Seq.{length-take-le}
-use Rattle.solve.specs.Solve.{slotBytes}
-use Rattle.solve.proofs.Outcomes.{Fitting, fitting-so, part-long, after-long, roomy, outcome-misfit, outcome-page, outcome-singular}
+use Rattle.entering.specs.Enter.{slotBytes}
+use Rattle.solve.proofs.Outcomes.{Fitting, fitting-so, part-long, after-long, outcome-misfit, outcome-page, outcome-singular}
 use Rattle.solve.proofs.solve.Statement.{statement}
 use Rattle.solve.proofs.solve.Tie as tie
 
@@ -49,10 +49,7 @@ write-page-requires : tie.Need-write-page-requires
 unfolding slotBytes
 write-page-requires c κs =
     let A = c .before .before .before .before .before .before .before .before .before .before .args in
-    let F = held (c .before .before) in (
-      (F .range .l-high, part-long (A .n) (A .l) (A .list .now) (A .roles .now) (A .slots .now) (A .page .now) F),
-      roomy (A .n) (A .l) (A .list .now) (A .roles .now) (A .slots .now) (A .page .now) F,
-    )
+    part-long (A .n) (A .l) (A .list .now) (A .roles .now) (A .slots .now) (A .page .now) (held (c .before .before))
 
 -- the slots are as long as they were
 abbrev Long : (c : tie.After-write-page) → Type 0

@@ -34,7 +34,8 @@ returns c =
     let turned = at .before .rot .result in
     let e = at .wrapping-sub-u32 .result in
     let e-is : e ≡ difference (g .a) turned = difference-only (g .a) turned e (omega arith) (omega arith) (at .wrapping-sub-u32 .ensures) in
-    cc
+    rw (c .wrapping-add-u323 .ensures, c .before .wrapping-add-u322 .ensures, c .before .before .wrapping-add-u32 .ensures)
+    (rw (e-is, at .before .rot .ensures, c .before .before .before .before .rot2 .ensures))
 
 pub step-spec : {M : Type 1} → statement M
 step-spec =

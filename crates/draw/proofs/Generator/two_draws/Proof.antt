@@ -30,8 +30,7 @@ unfolding twoDraws
 returns c =
     let first = c .before .before .before .step in
     let second = c .before .before .step2 in
-    let number-is = joined (first .result .d) (second .result .d) (omega arith) (omega arith) in
-    cc
+    joined (first .result .d) (second .result .d) (omega arith) (omega arith) ∙ rw (second .ensures, first .ensures)
 
 pub two-draws-spec : {M : Type 1} → statement M
 two-draws-spec = tie.close (tie.spec step-requires step-requires-2 cast-result cast-result-2 returns)

@@ -4,9 +4,10 @@ use mathlib.Core.Path.{_≡_, sym, _∙_}
 use native.Mathlib.Omega.{arith}
 use denote.Ref.{now}
 use borrow.Author.Needs.{needs}
-use Rattle.frame.specs.declared.fields.Found.the-variants.{Whole}
+use Rattle.field.specs.declared.Found.the-variants.{Whole}
 use Rattle.frame.specs.Layout.{seedAt, payloadAt}
-use Rattle.frame.specs.Reading.{expected, behind, third, fourth}
+use Rattle.field.specs.Expected.{expected}
+use Rattle.frame.specs.Reading.{behind, third, fourth}
 use Rattle.frame.proofs.Whole.{expected-ends}
 use Rattle.frame.proofs.parse.from_seed.Statement.{statement}
 use Rattle.frame.proofs.parse.from_seed.Tie as tie
@@ -26,24 +27,30 @@ enum-known-seed c = search needs
 
 returns : tie.Need-returns
 unfolding third behind
-returns c = rw (sym (c .before .before .before .expect .ensures) ∙ c .before .seed .given .1)
+returns c = rw (sym (c .before .before .before .before .expect .ensures) ∙ c .before .before .seed .given .1) (c .refuse .ensures)
+
+refuse-requires : tie.Need-refuse-requires
+refuse-requires c κs = search needs
 
 enum-told : tie.Need-enum-told
 enum-told c = search needs
 
 expect-requires-2 : tie.Need-expect-requires-2
-expect-requires-2 c κs = expected-ends (now (c .before .before .before .before .args .frame)) seedAt 3 4 (seed-whole c)
+expect-requires-2 c κs = search needs
 
 enum-known-payload : tie.Need-enum-known-payload
 enum-known-payload c = search needs
+
+refuse-requires-2 : tie.Need-refuse-requires-2
+refuse-requires-2 c κs = search needs
 
 returns-2 : tie.Need-returns-2
 unfolding third fourth behind
 returns-2 c =
     rw (
-      seed-whole (c .before .before .before .before),
-      sym (c .before .before .before .expect2 .ensures) ∙ c .before .payload .given .1,
-    )
+      seed-whole (c .before .before .before .before .before),
+      sym (c .before .before .before .before .expect2 .ensures) ∙ c .before .before .payload .given .1,
+    ) (c .refuse2 .ensures)
 
 enum-told-2 : tie.Need-enum-told-2
 enum-told-2 c = search needs
@@ -63,10 +70,12 @@ from-seed-spec =
     (tie.spec
     expect-requires
     enum-known-seed
+    refuse-requires
     returns
     enum-told
     expect-requires-2
     enum-known-payload
+    refuse-requires-2
     returns-2
     enum-told-2
     values-requires

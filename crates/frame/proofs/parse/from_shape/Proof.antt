@@ -3,9 +3,10 @@
 use mathlib.Core.Path.{_≡_, sym, _∙_}
 use denote.Ref.{now}
 use borrow.Author.Needs.{needs}
-use Rattle.frame.specs.declared.fields.Found.the-variants.{Whole}
+use Rattle.field.specs.declared.Found.the-variants.{Whole}
 use Rattle.frame.specs.Layout.{shapeAt, value}
-use Rattle.frame.specs.Reading.{expected, behind, nOf, lOf, second, fromShape}
+use Rattle.field.specs.Expected.{expected}
+use Rattle.frame.specs.Reading.{behind, nOf, lOf, second, fromShape}
 use Rattle.frame.proofs.Whole.{expected-ends}
 use Rattle.frame.proofs.parse.from_shape.Statement.{statement}
 use Rattle.frame.proofs.parse.from_shape.Tie as tie
@@ -21,7 +22,10 @@ enum-known-found c = search needs
 
 returns : tie.Need-returns
 unfolding fromShape second behind
-returns c = rw (sym (c .before .before .before .expect .ensures) ∙ c .before .found .given .1)
+returns c = rw (sym (c .before .before .before .before .expect .ensures) ∙ c .before .before .found .given .1) (c .refuse .ensures)
+
+refuse-requires : tie.Need-refuse-requires
+refuse-requires c κs = search needs
 
 enum-told : tie.Need-enum-told
 enum-told c = search needs
@@ -71,6 +75,7 @@ from-shape-spec =
     (tie.spec
     expect-requires
     enum-known-found
+    refuse-requires
     returns
     enum-told
     sub-shape

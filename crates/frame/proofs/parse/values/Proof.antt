@@ -7,7 +7,7 @@ use borrow.Author.Tests.{lt-ltb, le-ltb}
 use Rattle.octets.proofs.Runs.{known-below}
 use Rattle.frame.specs.Layout.{value}
 use Rattle.frame.specs.Reading.{ended, good}
-use Rattle.frame.proofs.Whole.{number-part}
+use Rattle.field.proofs.Parts.{number-part}
 use Rattle.frame.proofs.parse.values.Statement.{statement}
 use Rattle.frame.proofs.parse.values.Tie as tie
 

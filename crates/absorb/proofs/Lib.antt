@@ -1,0 +1,3 @@
+pub mod Absorbing
+pub mod Passing
+pub mod Settled

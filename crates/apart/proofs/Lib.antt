@@ -1,0 +1,4 @@
+pub mod Apart
+pub mod Gathering
+pub mod Fitting
+pub mod Settled

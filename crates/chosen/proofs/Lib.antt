@@ -1,0 +1,4 @@
+pub mod Choosing
+pub mod Weights
+pub mod Within
+pub mod Settled

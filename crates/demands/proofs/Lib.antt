@@ -1,0 +1,9 @@
+pub mod Words
+pub mod Any
+pub mod Taken
+pub mod Moved
+pub mod Shifted
+pub mod Demand1
+pub mod Demand2
+pub mod Demand3
+pub mod Plain

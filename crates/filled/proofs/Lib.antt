@@ -1,0 +1,4 @@
+pub mod Filling
+pub mod Pages
+pub mod Stored
+pub mod Told

@@ -1,0 +1,3 @@
+pub mod AtArrival
+pub mod Rows
+pub mod Settled

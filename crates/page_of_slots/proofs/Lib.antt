@@ -1,0 +1,4 @@
+pub mod Fronts
+pub mod Units
+pub mod Writing
+pub mod Settled

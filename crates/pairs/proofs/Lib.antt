@@ -1,3 +1,0 @@
-pub mod Putting
-pub mod Counted
-pub mod Settled

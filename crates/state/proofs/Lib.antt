@@ -1,0 +1,4 @@
+pub mod Sizes
+pub mod Fits
+pub mod Parts
+pub mod Settled

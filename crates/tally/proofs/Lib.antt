@@ -1,0 +1,4 @@
+mod Leaves
+pub mod Uses
+pub mod Fits
+pub mod Settled

@@ -1,3 +1,0 @@
-mod Marking
-mod CountedBoth
-pub mod Settled
