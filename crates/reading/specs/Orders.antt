@@ -27,10 +27,11 @@ inListOrder entries = select (counts entries) (arrivals (length entries))
 
 -- ---- what the demands ask of an order
 
--- It takes each row that counts once, and no other.
+-- How often a row is taken that counts, and one that does not.
 abbrev pub once : Bool → ℕ
 once b = cond b 1 0
 
+-- It takes each row that counts once, and no other.
 abbrev pub Takes : List ℕ → List ℕ → Type 0
 Takes entries order = (arrival : ℕ) → count (eqb arrival) order ≡ once (getD (counts entries) arrival false)
 
