@@ -1,6 +1,6 @@
 //! Holds the reading of both versions of a page that was saved twice: wish 1 of document 02.
 
-use crate::list::{refusal, Answer};
+use crate::list::{refusal, row_length, Answer};
 use crate::number::*;
 use crate::page;
 use crate::reading::{agrees, read_list};
@@ -24,7 +24,7 @@ pub struct Second<'a> {
 impl Second<'_> {
     /// Whether each buffer is as long as the first reading needs its own, and the list as the first.
     fn has_room(&self, n: u8, l: u8, list: &[u8]) -> bool {
-        let rows = list.len() / (8 + usize::from(l));
+        let rows = list.len() / row_length(l);
         self.list.len() >= list.len()
             && self.page.len() >= page::length(n, l)
             && self.uses.len() >= rows
@@ -33,6 +33,8 @@ impl Second<'_> {
 }
 
 /// Reads a list, and then the rows of it that do not agree with the page that it gave.
+///
+/// These are all of them, repeats too; the second reading finds its own repeats.
 #[allow(clippy::too_many_arguments)]
 pub fn read_both(
     n: u8,
@@ -58,7 +60,7 @@ pub fn read_both(
     if first.number != DONE {
         return alone(first);
     }
-    let rows = list.chunks_exact(8 + usize::from(l));
+    let rows = list.chunks_exact(row_length(l));
     let given = &page[..page::length(n, l)];
     let others: Vec<u8> = rows
         .filter(|row| !agrees(row, given))
@@ -77,6 +79,6 @@ pub fn read_both(
             second.roles,
             scratch,
         ),
-        rows: others.len() / (8 + usize::from(l)),
+        rows: others.len() / row_length(l),
     }
 }

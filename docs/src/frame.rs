@@ -3,7 +3,7 @@
 use std::ops::Range;
 
 use crate::draw;
-use crate::list::MOST_ROWS;
+use crate::list::{row_length, MOST_ROWS};
 use crate::number::*;
 use crate::page::{self, in_shape, strays};
 
@@ -119,8 +119,8 @@ pub fn write(
     (DONE, 0)
 }
 
-/// Makes the row of a page and a constraint in the first 8+L bytes of `room`.
-pub fn make(n: u8, l: u8, constraint: u64, page: &[u8], room: &mut [u8]) -> (u8, usize) {
+/// Makes the row of a page and a constraint, with a seed in front, in the first 12+L bytes of `room`.
+pub fn make(n: u8, l: u8, seed: u32, constraint: u64, page: &[u8], room: &mut [u8]) -> (u8, usize) {
     if !in_shape(n, l) {
         return (SHAPE, 0);
     }
@@ -130,11 +130,11 @@ pub fn make(n: u8, l: u8, constraint: u64, page: &[u8], room: &mut [u8]) -> (u8,
     if strays(n, constraint) {
         return (STRAY, 0);
     }
-    let Some(room) = room.get_mut(..8 + usize::from(l)) else {
+    let Some(room) = room.get_mut(..row_length(l)) else {
         return (ROOM, 0);
     };
     let payload = page::sum(constraint, usize::from(l), page);
-    put_row(constraint, &payload, room);
+    put_row(seed, constraint, &payload, room);
     (DONE, 0)
 }
 
@@ -162,18 +162,16 @@ pub fn lay(
     if arrival >= MOST_ROWS {
         return (LIST, 0);
     }
-    let row_length = 8 + usize::from(l);
-    let start = row_length * arrival;
-    let Some(room) = list.get_mut(start..start + row_length) else {
+    let start = row_length(l) * arrival;
+    let Some(room) = list.get_mut(start..start + row_length(l)) else {
         return (ROOM, 0);
     };
     let constraint = draw::constraint(n, reading.seed).expect("n is in range");
-    put_row(constraint, &frame[reading.payload], room);
+    put_row(reading.seed, constraint, &frame[reading.payload], room);
     (DONE, 0)
 }
 
-fn put_row(constraint: u64, payload: &[u8], room: &mut [u8]) {
-    let (head, tail) = room.split_at_mut(8);
-    head.copy_from_slice(&constraint.to_be_bytes());
-    tail.copy_from_slice(payload);
+fn put_row(seed: u32, constraint: u64, payload: &[u8], room: &mut [u8]) {
+    let row = [&seed.to_be_bytes()[..], &constraint.to_be_bytes(), payload];
+    room.copy_from_slice(&row.concat());
 }

@@ -1,4 +1,4 @@
-//! Holds the independent second program: the rules of document 01 in plain Rust.
+//! Holds the independent second program: the rules of document 01, and of wishes 1 to 3 of document 02, in plain Rust.
 
 pub mod both;
 pub mod draw;

@@ -30,9 +30,21 @@ impl Answer {
     }
 }
 
+/// 12+L, the bytes of a row in a list.
+pub fn row_length(l: u8) -> usize {
+    12 + usize::from(l)
+}
+
+/// The seed of a row in a list, and what takes part in elimination: constraint and payload.
+pub fn split_seed(row: &[u8]) -> (u32, &[u8]) {
+    let (seed, rest) = row.split_first_chunk().expect("a row has 12+L bytes");
+    (u32::from_be_bytes(*seed), rest)
+}
+
 /// The constraint and the payload of a row in a list.
 pub fn split(row: &[u8]) -> (u64, &[u8]) {
-    let (constraint, payload) = row.split_first_chunk().expect("a row has 8+L bytes");
+    let (_, rest) = split_seed(row);
+    let (constraint, payload) = rest.split_first_chunk().expect("a row has 12+L bytes");
     (u64::from_be_bytes(*constraint), payload)
 }
 
@@ -50,7 +62,7 @@ pub fn refusal(
     if !in_shape(n, l) {
         return refused(SHAPE);
     }
-    let mut rows = list.chunks_exact(8 + usize::from(l));
+    let mut rows = list.chunks_exact(row_length(l));
     let m = rows.len();
     if !rows.remainder().is_empty() || m > MOST_ROWS {
         return refused(LIST);

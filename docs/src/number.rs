@@ -4,7 +4,7 @@
 pub const DONE: u8 = 0;
 /// n or L out of range.
 pub const SHAPE: u8 = 1;
-/// List length no multiple of 8+L, over 512 rows, or an arrival number over 511.
+/// List length no multiple of 12+L, over 512 rows, or an arrival number over 511.
 pub const LIST: u8 = 2;
 /// A lent buffer too short.
 pub const ROOM: u8 = 3;

@@ -1,6 +1,6 @@
 //! Holds the list reader that turns the list on its side, as a check on row-by-row elimination.
 //!
-//! Each list row is a column, and each bit position of a row is an equation over these columns.
+//! Each list row, its seed left out, is a column, and each bit position of it is an equation over these columns.
 //! Adding one equation to another and swapping two change no relation between columns: the same
 //! sets of columns sum to zero afterwards. In reduced echelon form, with pivot columns chosen left
 //! to right, the pivot column of an equation has its only one there. So
@@ -9,7 +9,7 @@
 //! - any other column has ones only in equations whose pivot lies to its left: it is the sum of
 //!   these pivot columns, and its ones name the set of kept rows of its row.
 
-use crate::list::{record, refusal, split, MOST_ROWS};
+use crate::list::{record, refusal, row_length, split, split_seed, MOST_ROWS};
 use crate::number::*;
 use crate::page;
 
@@ -38,15 +38,20 @@ pub fn read_list(
     if let Some(refused) = refusal(n, l, list, page, uses, roles, scratch) {
         return refused;
     }
+    let rows: Vec<&[u8]> = list.chunks_exact(row_length(l)).collect();
+    let counting = counting(&rows);
     let (n, l) = (usize::from(n), usize::from(l));
-    let rows: Vec<&[u8]> = list.chunks_exact(8 + l).collect();
 
     // As no constraint strays, the equations of bits worth 2^n or more are empty.
+    let columns: Vec<&[u8]> = rows.iter().map(|row| split_seed(row).1).collect();
     let Reduced {
         pivots: kept,
         equations,
-    } = reduce(&rows);
-    let counts: Vec<u16> = equations.iter().map(count_uses).collect();
+    } = reduce(&columns);
+    let counts: Vec<u16> = equations
+        .iter()
+        .map(|equation| count_uses(equation, &counting))
+        .collect();
     record(rows.len(), &kept, &counts, uses, roles, scratch);
 
     let rank = kept.len();
@@ -60,7 +65,7 @@ pub fn read_list(
     for &arrival in &picked {
         roles[arrival] = 2;
     }
-    let picked_rows: Vec<&[u8]> = picked.iter().map(|&arrival| rows[arrival]).collect();
+    let picked_rows: Vec<&[u8]> = picked.iter().map(|&arrival| columns[arrival]).collect();
     let Some(solved) = solve(n, l, &picked_rows) else {
         return Answer::without_page(SINGULAR, rank);
     };
@@ -69,14 +74,38 @@ pub fn read_list(
         number: DONE,
         rank,
         place: 0,
-        agreement: rows.iter().filter(|row| agrees(row, &solved)).count(),
+        agreement: (0..rows.len())
+            .filter(|&arrival| has(&counting, arrival) && agrees(rows[arrival], &solved))
+            .count(),
     }
 }
 
+/// The columns of the rows that count: of all but those equal to an earlier one, seed and all.
+fn counting(rows: &[&[u8]]) -> Equation {
+    let mut counting = Equation::default();
+    for (arrival, row) in rows.iter().enumerate() {
+        let repeat = rows[..arrival].contains(row);
+        counting[arrival / 64] |= u64::from(!repeat) << (arrival % 64);
+    }
+    counting
+}
+
+/// How many rows of the list count and do not agree with a page.
+pub fn disagreeing(l: u8, list: &[u8], page: &[u8]) -> usize {
+    let rows: Vec<&[u8]> = list.chunks_exact(row_length(l)).collect();
+    let counting = counting(&rows);
+    (0..rows.len())
+        .filter(|&arrival| has(&counting, arrival) && !agrees(rows[arrival], page))
+        .count()
+}
+
 /// The uses of the kept row that is this equation's pivot column.
-fn count_uses(equation: &Equation) -> u16 {
-    let ones: u32 = equation.iter().map(|word| word.count_ones()).sum();
-    // All ones but the pivot's own are in columns of rows not kept.
+fn count_uses(equation: &Equation, counting: &Equation) -> u16 {
+    let both = equation.iter().zip(counting);
+    let ones: u32 = both
+        .map(|(ones, counting)| (ones & counting).count_ones())
+        .sum();
+    // All ones but the pivot's own are in columns of rows not kept. A kept row is no repeat.
     (ones - 1) as u16
 }
 

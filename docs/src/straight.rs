@@ -2,10 +2,10 @@
 
 use std::iter::successors;
 
-use crate::list::{record, refusal, Answer};
+use crate::list::{record, refusal, row_length, split_seed, Answer, MOST_ROWS};
 use crate::number::*;
 
-/// A row, its payload filled up with zero bytes to 32; or a set of up to 320 kept places.
+/// A row without its seed, its payload filled up with zero bytes to 32; or a set of up to 320 kept places.
 type Words = [u64; 5];
 
 /// A payload or a symbol, filled up with zero bytes to 32.
@@ -133,13 +133,18 @@ fn read<const HEADS: bool>(
     if let Some(refused) = refusal(n, l, list, page, uses, roles, scratch) {
         return refused;
     }
+    let list: Vec<&[u8]> = list.chunks_exact(row_length(l)).collect();
     let (n, l) = (usize::from(n), usize::from(l));
-    let rows: Vec<Words> = list.chunks_exact(8 + l).map(words).collect();
+    let counting = counting(&list);
+    let rows: Vec<Words> = counting
+        .iter()
+        .map(|&arrival| words(list[arrival]))
+        .collect();
     let mut basis = Basis::<HEADS>::new();
-    for (arrival, &row) in rows.iter().enumerate() {
+    for (&arrival, &row) in counting.iter().zip(&rows) {
         basis.take(arrival, row);
     }
-    record(rows.len(), &basis.kept, &basis.uses, uses, roles, scratch);
+    record(list.len(), &basis.kept, &basis.uses, uses, roles, scratch);
 
     let rank = basis.kept.len();
     if rank < n {
@@ -151,7 +156,7 @@ fn read<const HEADS: bool>(
     for &arrival in &picked {
         roles[arrival] = 2;
     }
-    let picked_rows = picked.iter().map(|&arrival| rows[arrival]).collect();
+    let picked_rows = picked.iter().map(|&arrival| words(list[arrival])).collect();
     let Some(symbols) = solve(picked_rows) else {
         return Answer::without_page(SINGULAR, rank);
     };
@@ -164,6 +169,33 @@ fn read<const HEADS: bool>(
         place: 0,
         agreement: rows.iter().filter(|row| agrees(row, &symbols)).count(),
     }
+}
+
+/// The arrival numbers of the rows that count: of all but the repeats of earlier ones.
+///
+/// A repeat is never kept and adds to nothing, so nothing is done with it. The rows that count stand
+/// in chains by the last bits of their seeds, and a row is compared with those of its chain alone,
+/// from the newest back.
+fn counting(list: &[&[u8]]) -> Vec<usize> {
+    const CHAINS: usize = 1_024;
+    // The end of a chain is no arrival number.
+    const END: u16 = u16::MAX;
+    let mut newest = [END; CHAINS];
+    let mut next_older = [END; MOST_ROWS];
+    let mut counting = Vec::with_capacity(list.len());
+    for (arrival, row) in list.iter().enumerate() {
+        let chain = &mut newest[split_seed(row).0 as usize % CHAINS];
+        let mut place = *chain;
+        while place != END && list[usize::from(place)] != *row {
+            place = next_older[usize::from(place)];
+        }
+        if place == END {
+            next_older[arrival] = *chain;
+            *chain = arrival as u16;
+            counting.push(arrival);
+        }
+    }
+    counting
 }
 
 /// Solves the n picked rows for the symbols, in the order of symbols.
@@ -206,6 +238,7 @@ fn ones(word: u64) -> impl Iterator<Item = usize> {
 }
 
 fn words(row: &[u8]) -> Words {
+    let (_, row) = split_seed(row);
     let mut padded = [0; 40];
     padded[..row.len()].copy_from_slice(row);
     std::array::from_fn(|i| u64::from_be_bytes(std::array::from_fn(|j| padded[8 * i + j])))

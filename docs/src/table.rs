@@ -9,6 +9,7 @@ pub struct Base {
     pub page_number: u32,
     pub n: u8,
     pub l: u8,
+    pub seed: u32,
     pub frame: Vec<u8>,
 }
 
@@ -36,6 +37,7 @@ pub fn base_frames() -> Vec<Base> {
             page_number,
             n,
             l,
+            seed,
             frame,
         }
     };

@@ -7,11 +7,14 @@ use std::time::{Duration, Instant};
 use std::{env, fs};
 
 use plain::frame::make;
-use plain::list::Answer;
+use plain::list::{row_length, Answer};
 use plain::rng::Rng;
 use plain::{draw, page, straight};
 
 const ROWS: usize = 512;
+/// Frames that are held, and how often a camera sees each of them: 510 rows.
+const HELD: usize = 17;
+const TIMES: usize = 30;
 const LISTS: usize = 5;
 const RUNS_EACH: usize = 201;
 /// All lists of a line come from it.
@@ -23,15 +26,28 @@ type Shape = (u8, u8);
 const LARGEST: Shape = (64, 32);
 const SHAPES: [Shape; 4] = [LARGEST, (64, 8), (16, 32), (16, 8)];
 
-/// How the rows of a list come about.
+/// How the rows of a list come about. In the first four all rows are different.
 #[derive(Clone, Copy, PartialEq, Eq)]
 enum Kind {
     Good,
     OneInTenWrong,
     TwoVersions,
+    /// Good rows whose seeds do not follow each other.
+    RandomSeeds,
+    /// Few frames, each held on the screen for a while.
+    Held,
+    /// The same frames, shown one after the other, again and again.
+    InTurn,
 }
 
-const KINDS: [Kind; 3] = [Kind::Good, Kind::OneInTenWrong, Kind::TwoVersions];
+const KINDS: [Kind; 6] = [
+    Kind::Good,
+    Kind::OneInTenWrong,
+    Kind::TwoVersions,
+    Kind::RandomSeeds,
+    Kind::Held,
+    Kind::InTurn,
+];
 
 fn main() {
     // `cargo test --benches` starts it too, but without this word.
@@ -39,7 +55,7 @@ fn main() {
         return;
     }
     println!(
-        "Reading {ROWS} rows: medians and minima in microseconds of {LISTS} lists from seed {SEED}, \
+        "Reading {ROWS} rows, or {HELD} frames {TIMES} times: medians and minima in microseconds of {LISTS} lists from seed {SEED}, \
          each read {RUNS_EACH} times\nby each reader in turn. In all times: the checks, the \
          reading, the marks, and 32,768 bytes of\nscratch cleared. In none: making the lists and \
          buffers; buffers are lent as the last reading left them.\nBehind a plain time stands the \
@@ -48,9 +64,9 @@ fn main() {
     if let Some(name) = model_name() {
         println!("Processor: {name}");
     }
-    println!("\n{:<19}{:^37}  {:^37}", "", "medians", "minima");
+    println!("\n{:<20}{:^37}  {:^37}", "", "medians", "minima");
     let columns = format!("{:>7} {:>14} {:>14}", "proved", "plain", "heads");
-    println!("{:<19}{columns}  {columns}  answers", "");
+    println!("{:<20}{columns}  {columns}  answers", "");
 
     let mut largest = None;
     for shape in SHAPES {
@@ -146,6 +162,9 @@ impl Line {
             Kind::Good => "all good rows",
             Kind::OneInTenWrong => "one in ten wrong",
             Kind::TwoVersions => "two versions mixed",
+            Kind::RandomSeeds => "good, random seeds",
+            Kind::Held => "17 held 30 times",
+            Kind::InTurn => "17 in turn 30 times",
         };
         let columns = |of: fn(&Times) -> f64| {
             let (proved, plain, heads) = (of(&self.proved), of(&self.plain), of(&self.heads));
@@ -156,7 +175,7 @@ impl Line {
             columns(|times| times.median),
             columns(|times| times.minimum),
         );
-        println!("{name:<19}{medians}  {minima}  {:?}", self.answers);
+        println!("{name:<20}{medians}  {minima}  {:?}", self.answers);
     }
 }
 
@@ -211,20 +230,37 @@ impl Lent<u16> {
     }
 }
 
-/// Rows as frames carry them: constraints drawn from seeds.
-fn random_list(rng: &mut Rng, (n, l): Shape, kind: Kind) -> Vec<u8> {
+fn random_list(rng: &mut Rng, shape: Shape, kind: Kind) -> Vec<u8> {
+    match kind {
+        Kind::Held => {
+            let frames = different_rows(rng, shape, kind, HELD);
+            let rows = frames.chunks_exact(row_length(shape.1));
+            rows.flat_map(|row| row.repeat(TIMES)).collect()
+        }
+        Kind::InTurn => different_rows(rng, shape, kind, HELD).repeat(TIMES),
+        _ => different_rows(rng, shape, kind, ROWS),
+    }
+}
+
+/// Rows as frames carry them: constraints drawn from seeds, which follow each other as a phone that
+/// shows a page takes them, unless the kind says otherwise.
+fn different_rows(rng: &mut Rng, (n, l): Shape, kind: Kind, count: usize) -> Vec<u8> {
     let versions = [(); 2].map(|()| rng.bytes(page::length(n, l)));
-    let row_bytes = 8 + usize::from(l);
-    let mut list = vec![0; ROWS * row_bytes];
-    for row in list.chunks_exact_mut(row_bytes) {
-        let constraint = draw::constraint(n, rng.draw() as u32).expect("n is in range");
+    let mut list = vec![0; count * row_length(l)];
+    let mut seed = rng.draw() as u32;
+    for row in list.chunks_exact_mut(row_length(l)) {
+        seed = match kind {
+            Kind::RandomSeeds => rng.draw() as u32,
+            _ => seed.wrapping_add(1),
+        };
+        let constraint = draw::constraint(n, seed).expect("n is in range");
         let version = match kind {
             Kind::TwoVersions => rng.below(2),
             _ => 0,
         };
-        make(n, l, constraint, &versions[version], row);
+        make(n, l, seed, constraint, &versions[version], row);
         if kind == Kind::OneInTenWrong && rng.below(10) == 0 {
-            row[8..].copy_from_slice(&rng.bytes(usize::from(l)));
+            row[12..].copy_from_slice(&rng.bytes(usize::from(l)));
         }
     }
     list

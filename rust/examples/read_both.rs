@@ -11,6 +11,7 @@ fn main() -> io::Result<()> {
             eprintln!("{refusal}");
         }
     }
+    let held = scan.held();
     match scan.read_both() {
         Ok(versions) => {
             print("this", versions.page);
@@ -21,6 +22,9 @@ fn main() -> io::Result<()> {
                     let frames = versions.page.disagreeing();
                     println!("frames that say otherwise: {frames}; {next}");
                 }
+            }
+            if held > 0 {
+                println!("frames seen again, which adds nothing: {held}");
             }
         }
         Err(next) => println!("{next}"),

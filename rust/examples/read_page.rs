@@ -10,6 +10,7 @@ fn main() -> io::Result<()> {
             eprintln!("{refusal}");
         }
     }
+    let held = scan.held();
     match scan.read() {
         Ok(page) => {
             println!("{}", page.bytes.escape_ascii());
@@ -20,6 +21,9 @@ fn main() -> io::Result<()> {
             };
             let (agreement, rows, beyond) = (page.agreement, page.rows, page.beyond());
             println!("{agreement} of {rows} frames agree, {beyond} more than needed; {confirmed}");
+            if held > 0 {
+                println!("frames seen again, which adds nothing: {held}");
+            }
         }
         Err(next) => println!("{next}"),
     }

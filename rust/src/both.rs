@@ -11,7 +11,7 @@ pub struct Both {
     /// The answer to the second list, the rows that do not agree with the first page; 5 with
     /// rank 0 where there is no first page.
     pub second: Answer,
-    /// How many rows the second list has.
+    /// How many rows the second list has, repeats too.
     pub rows: usize,
 }
 
@@ -30,22 +30,22 @@ pub struct Second<'a> {
 
 /// Reads a list, and then the rows of it that do not agree with the page that it gives.
 ///
-/// Those rows are copied to the second list in their old order, and read by the same rules. What
-/// is lent for the second reading stays as it is where there is no first page; the scratch serves
-/// both.
+/// Those rows, repeats too, are copied to the second list in their old order, and read by the same
+/// rules. What is lent for the second reading stays as it is where there is no first page; the
+/// scratch serves both.
 ///
 /// ```
 /// use mekorvat::{read_both, Answer, Second, SCRATCH_BYTES};
 ///
 /// // Three rows on the one symbol there is; the first is from another version of the page.
 /// let list = [
-///     0, 0, 0, 0, 0, 0, 0, 1, 7, //
-///     0, 0, 0, 0, 0, 0, 0, 1, 9, //
-///     0, 0, 0, 0, 0, 0, 0, 1, 9,
+///     0, 0, 0, 0, 0, 0, 0, 0, 0, 0, 0, 1, 7, //
+///     0, 0, 0, 1, 0, 0, 0, 0, 0, 0, 0, 1, 9, //
+///     0, 0, 0, 2, 0, 0, 0, 0, 0, 0, 0, 1, 9,
 /// ];
 /// let (mut page, mut uses, mut roles) = ([0; 1], [0; 6], [0; 3]);
 /// let (mut page2, mut uses2, mut roles2) = ([0; 1], [0; 6], [0; 3]);
-/// let mut list2 = [0; 27];
+/// let mut list2 = [0; 39];
 /// let second = Second {
 ///     list: &mut list2,
 ///     page: &mut page2,
@@ -60,7 +60,7 @@ pub struct Second<'a> {
 /// assert_eq!((page, page2, both.rows), ([9], [7], 1));
 /// assert!(both.first.confirmed(&uses, &roles));
 /// assert!(!both.second.confirmed(&uses2, &roles2)); // one row says so, and none checks it
-/// assert_eq!(list2[..9], list[..9]);
+/// assert_eq!(list2[..13], list[..13]);
 /// ```
 // One for each thing lent, as in `read_list`.
 #[allow(clippy::too_many_arguments)]

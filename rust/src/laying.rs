@@ -73,9 +73,10 @@ impl fmt::Display for LayRefusal {
 
 impl Error for LayRefusal {}
 
-/// Lays a frame of the expected page into the list, at byte (8+L) times the arrival number.
+/// Lays a frame of the expected page into the list, at byte (12+L) times the arrival number.
 ///
-/// An arrival number is a place in the list. No other byte of the list changes, and the list may
+/// An arrival number is a place in the list. The row there is the frame's seed, the constraint drawn
+/// from it, and the payload. No other byte of the list changes, and the list may
 /// have any length that reaches the row.
 ///
 /// ```
@@ -83,11 +84,11 @@ impl Error for LayRefusal {}
 ///
 /// let frame = [1, 0, 4, 0, 0, 0, 5, 2, 0, 2, 1, 1, 3, 0, 4, 0, 0, 0, 2, 4, 0, 1, 9];
 /// let expected = PageId { page_number: 5, n: 1, l: 1 };
-/// let mut list = [170; 20];
+/// let mut list = [170; 28];
 /// lay(&frame, expected, 1, &mut list)?;
-/// assert_eq!(list[..9], [170; 9]);
-/// assert_eq!(list[9..18], [0, 0, 0, 0, 0, 0, 0, 1, 9]);
-/// assert_eq!(list[18..], [170; 2]);
+/// assert_eq!(list[..13], [170; 13]);
+/// assert_eq!(list[13..26], [0, 0, 0, 2, 0, 0, 0, 0, 0, 0, 0, 1, 9]);
+/// assert_eq!(list[26..], [170; 2]);
 ///
 /// assert_eq!(lay(&frame, expected, 2, &mut list), Err(LayRefusal::Room));
 /// # Ok::<(), LayRefusal>(())

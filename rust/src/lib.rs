@@ -38,6 +38,9 @@
 //!
 //! # When to believe a page
 //!
+//! A frame gives a row. A frame that is held on the screen and seen thirty times is one row: rows
+//! that are equal, seeds too, count once. So a misread frame outvotes nothing by being held.
+//!
 //! A page is made from n rows, the picked ones, and these always agree with it. So a page that
 //! comes with all rows agreeing may still be wrong: if no other row uses a picked row, and that one
 //! was misread, nothing shows it. [`Page::confirmed`] says that every picked row has a use.
@@ -47,16 +50,17 @@
 //! with another program, not proved):
 //!
 //! - The page is confirmed exactly when no single misread row can have made it wrong: when there is
-//!   no other page that all rows but at most one agree with (`confirmed-means`, `one-misread`).
-//! - Where the rank is n and a picked row has no use, any other payload in that row gives another
-//!   page with the same rank, agreement, kept rows and uses (`unconfirmed`): no number and no mark
-//!   tells the two apart.
+//!   no other page that all rows but at most one agree with, repeats not counted
+//!   (`confirmed-means`, `one-misread`).
+//! - Where the rank is n and a picked row has no use, any other payload in that row, and in its
+//!   repeats, gives another page with the same rank, agreement, kept rows and uses
+//!   (`unconfirmed`): no number and no mark tells the two apart.
 //! - Where the rank is over n, the page is confirmed (`more-confirms`).
 //!
 //! Two or more misread rows can make a confirmed page wrong. A frame whose seed was misread is a
-//! misread row too, and so is each copy of one misread frame that is offered more than once. How
-//! often confirmed pages were wrong where it was tried is in docs/CONFIRMED.md: rarest where, with
-//! many rows that agree beyond those n ([`Page::beyond`]), few disagree ([`Page::disagreeing`]).
+//! misread row too, and a held frame that was misread in two ways is two of them. How often
+//! confirmed pages were wrong where it was tried is in docs/CONFIRMED.md: rarest where, with many
+//! rows that agree beyond those n ([`Page::beyond`]), few disagree ([`Page::disagreeing`]).
 //!
 //! # Both versions of a page
 //!
@@ -67,8 +71,13 @@
 //! # With buffers of your own
 //!
 //! [`read_frame`], [`lay`], [`read_list`] and [`read_both`] allocate nothing and work in the
-//! buffers that you lend; [`Answer::confirmed`] reads off them whether a page is confirmed.
-//! [`boundary`] has the same four functions with nothing but numbers and slices.
+//! buffers that you lend; [`Answer::confirmed`] reads off them whether a page is confirmed, and
+//! [`counted`] how many rows of a list count. [`boundary`] has the same four functions with nothing
+//! but numbers and slices.
+//!
+//! A held frame that is laid again takes one of the 512 places of a list, though it adds nothing.
+//! A [`Scan`] lays each row once; in a list of your own, [`repeat_of`] tells when the next frame may
+//! take the same place.
 
 #![warn(missing_docs)]
 #![deny(unsafe_code)]
@@ -81,6 +90,7 @@ mod marks;
 mod page;
 mod page_id;
 mod reading;
+mod repeats;
 mod scan;
 
 pub use both::{read_both, Both, Second};
@@ -90,4 +100,5 @@ pub use marks::{marks, uses, Mark};
 pub use page::{Next, Other, Page, Versions};
 pub use page_id::{PageId, LONGEST_PAGE, LONGEST_ROW, MOST_ROWS, SCRATCH_BYTES};
 pub use reading::{read_list, Answer};
+pub use repeats::{counted, repeat_of};
 pub use scan::Scan;

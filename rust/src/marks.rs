@@ -6,16 +6,16 @@ const NO_USES: u16 = 65_535;
 /// What a reading made of a row.
 #[derive(Clone, Copy, Debug, PartialEq, Eq)]
 pub enum Mark {
-    /// Role 0: the row is a sum of kept rows.
+    /// Role 0: the row is a sum of kept rows, or a repeat of an earlier row.
     NotKept,
     /// Role 1: kept and not picked.
     Kept {
-        /// How many rows not kept have this row in their set.
+        /// How many rows not kept have this row in their set, repeats not counted.
         uses: u16,
     },
     /// Role 2: kept and picked, which happens under 0 and 7 only.
     Picked {
-        /// How many rows not kept have this row in their set.
+        /// How many rows not kept have this row in their set, repeats not counted.
         uses: u16,
     },
 }

@@ -12,7 +12,7 @@ pub struct Page<'a> {
     pub id: PageId,
     /// The nL bytes of the page; symbol k is bytes kL to kL+L-1.
     pub bytes: &'a [u8],
-    /// How many rows were read.
+    /// How many rows were read. A frame that is held, or shown again, is one row.
     pub rows: usize,
     /// How many of them are kept.
     pub rank: usize,
@@ -29,7 +29,8 @@ impl Page<'_> {
         self.agreement - usize::from(self.id.n)
     }
 
-    /// How many rows do not agree with the page: misread, or from another version of it.
+    /// How many rows do not agree with the page: misread, or from another version of it. A frame
+    /// that is held, or shown again, is one row here too.
     ///
     /// There are some exactly where the rank is over n, and then the page is confirmed. So where
     /// there are none, this says nothing about the page.

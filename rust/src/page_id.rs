@@ -1,5 +1,7 @@
 //! Holds what all frames of one page have in common, and the sizes that follow from it.
 
+use crate::repeats::row_bytes;
+
 /// The most rows that a list may have.
 pub const MOST_ROWS: usize = 512;
 
@@ -7,7 +9,7 @@ pub const MOST_ROWS: usize = 512;
 pub const LONGEST_PAGE: usize = 2_048;
 
 /// The bytes of the longest row in a list, whose payload has 32.
-pub const LONGEST_ROW: usize = 40;
+pub const LONGEST_ROW: usize = 44;
 
 /// The bytes of scratch that a list reading asks for.
 pub const SCRATCH_BYTES: usize = 32_768;
@@ -29,8 +31,8 @@ impl PageId {
         usize::from(self.n) * usize::from(self.l)
     }
 
-    /// The bytes of a row in a list, 8+L.
+    /// The bytes of a row in a list, 12+L: the seed, the constraint and the payload.
     pub fn row_bytes(self) -> usize {
-        8 + usize::from(self.l)
+        row_bytes(self.l)
     }
 }

@@ -13,12 +13,12 @@ pub enum Answer {
     Page {
         /// How many rows are kept.
         rank: usize,
-        /// How many rows agree with the page.
+        /// How many rows agree with the page, repeats not counted.
         agreement: usize,
     },
     /// 1: n or L is out of range.
     Shape,
-    /// 2: the list's length is no multiple of 8+L, or it has over 512 rows.
+    /// 2: the list's length is no multiple of 12+L, or it has over 512 rows.
     List,
     /// 3: a lent buffer is too short.
     Room,
@@ -78,7 +78,7 @@ impl Answer {
         }
     }
 
-    /// How many rows agree with the page; 0 where there is none.
+    /// How many rows agree with the page, repeats not counted; 0 where there is none.
     pub fn agreement(self) -> usize {
         match self {
             Answer::Page { agreement, .. } => agreement,
@@ -145,7 +145,10 @@ impl fmt::Display for Answer {
     }
 }
 
-/// Reads a list of rows.
+/// Reads a list of rows, each of 12+L bytes: a seed, a constraint and a payload.
+///
+/// A row that is equal to an earlier one in all three is a repeat, as a frame that is held on the
+/// screen gives. It adds to no uses and no agreement.
 ///
 /// Lent for m rows: `page` of at least nL bytes, `uses` of at least 2m, `roles` of at least m,
 /// `scratch` of at least [`SCRATCH_BYTES`](crate::SCRATCH_BYTES). Each use is two bytes,
@@ -156,10 +159,10 @@ impl fmt::Display for Answer {
 /// use mekorvat::{read_list, uses, Answer, SCRATCH_BYTES};
 ///
 /// // Three rows on the one symbol there is; the first was misread.
-/// let list = [
-///     0, 0, 0, 0, 0, 0, 0, 1, 7, //
-///     0, 0, 0, 0, 0, 0, 0, 1, 9, //
-///     0, 0, 0, 0, 0, 0, 0, 1, 9,
+/// let mut list = [
+///     0, 0, 0, 0, 0, 0, 0, 0, 0, 0, 0, 1, 7, //
+///     0, 0, 0, 1, 0, 0, 0, 0, 0, 0, 0, 1, 9, //
+///     0, 0, 0, 2, 0, 0, 0, 0, 0, 0, 0, 1, 9,
 /// ];
 /// let (mut page, mut pairs, mut roles) = ([0; 1], [0; 6], [0; 3]);
 /// let mut scratch = vec![0; SCRATCH_BYTES];
@@ -172,9 +175,15 @@ impl fmt::Display for Answer {
 /// assert!(answer.confirmed(&pairs, &roles));
 ///
 /// // The first row by itself gives a page as well, which nothing confirms.
-/// let answer = read_list(1, 1, &list[..9], &mut page, &mut pairs, &mut roles, &mut scratch);
+/// let answer = read_list(1, 1, &list[..13], &mut page, &mut pairs, &mut roles, &mut scratch);
 /// assert_eq!((answer, page), (Answer::Page { rank: 1, agreement: 1 }, [7]));
 /// assert!(!answer.confirmed(&pairs, &roles));
+///
+/// // Were the third row the second one again, it would be one against one.
+/// list[26 + 3] = 1;
+/// let answer = read_list(1, 1, &list, &mut page, &mut pairs, &mut roles, &mut scratch);
+/// assert_eq!(answer, Answer::Tie { rank: 2 });
+/// assert!(uses(&pairs).eq([0, 0, 65_535]));
 /// ```
 pub fn read_list(
     n: u8,

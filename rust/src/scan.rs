@@ -3,18 +3,21 @@
 use std::fmt;
 
 use crate::{
-    lay, marks, read_both, read_frame, read_list, Answer, Both, LayRefusal, Mark, Next, Other,
-    Page, PageId, Second, Versions, LONGEST_PAGE, LONGEST_ROW, MOST_ROWS, SCRATCH_BYTES,
+    lay, marks, read_both, read_frame, read_list, repeat_of, Answer, Both, LayRefusal, Mark, Next,
+    Other, Page, PageId, Second, Versions, LONGEST_PAGE, LONGEST_ROW, MOST_ROWS, SCRATCH_BYTES,
 };
 
 /// The reading of one page from frames as they come.
 ///
-/// It lays good frames into a list of its own, and reads that list whenever it is asked. It
-/// allocates when it is made, some 81,000 bytes, and never after.
+/// It lays good frames into a list of its own, and reads that list whenever it is asked. A frame
+/// that is held on the screen is laid once, however often it is offered. It allocates when it is
+/// made, some 85,000 bytes, and never after.
 #[derive(Clone)]
 pub struct Scan {
     expected: Option<PageId>,
+    /// No two of them are equal.
     rows: usize,
+    held: usize,
     answer: Option<Answer>,
     first: Buffers,
     /// The second list, and what is lent for its reading.
@@ -63,6 +66,7 @@ impl Scan {
         Scan {
             expected: None,
             rows: 0,
+            held: 0,
             answer: None,
             first: Buffers::new(),
             second: Buffers::new(),
@@ -83,14 +87,22 @@ impl Scan {
         self.expected
     }
 
-    /// How many rows are laid.
+    /// How many rows are laid, no two of them equal.
     pub fn rows(&self) -> usize {
         self.rows
     }
 
+    /// How many frames were offered whose row was laid already: frames that were held on the
+    /// screen, or shown again.
+    pub fn held(&self) -> usize {
+        self.held
+    }
+
     /// Lays a frame, and gives the arrival number of its row.
     ///
-    /// A refused frame changes nothing.
+    /// A refused frame changes nothing. Nor does a frame whose row is laid already: it would add
+    /// nothing to a reading, and only take a place in the list. Once there are 512 rows every frame
+    /// of the page is refused, held or not.
     ///
     /// ```
     /// use mekorvat::{FrameRefusal, LayRefusal, Scan};
@@ -102,6 +114,12 @@ impl Scan {
     /// assert_eq!(scan.offer(&page_6), Err(LayRefusal::OtherPage));
     /// let cut_off = FrameRefusal::Short { place: 21 };
     /// assert_eq!(scan.offer(&page_5[..21]), Err(LayRefusal::Frame(cut_off)));
+    ///
+    /// // The next frame, and then the first again: it has its row.
+    /// let next = [1, 0, 4, 0, 0, 0, 5, 2, 0, 2, 1, 1, 3, 0, 4, 0, 0, 0, 1, 4, 0, 1, 7];
+    /// assert_eq!(scan.offer(&next), Ok(1));
+    /// assert_eq!(scan.offer(&page_5), Ok(0));
+    /// assert_eq!((scan.rows(), scan.held()), (2, 1));
     /// ```
     pub fn offer(&mut self, frame: &[u8]) -> Result<usize, LayRefusal> {
         let expected = match self.expected {
@@ -110,6 +128,10 @@ impl Scan {
         };
         let arrival = self.rows;
         lay(frame, expected, arrival, &mut self.first.list)?;
+        if let Some(earlier) = repeat_of(expected.l, &self.first.list, arrival) {
+            self.held += 1;
+            return Ok(earlier);
+        }
         self.expected = Some(expected);
         self.rows += 1;
         self.answer = None;
@@ -133,11 +155,15 @@ impl Scan {
     /// assert_eq!((page.bytes, page.disagreeing()), (&[7][..], 0));
     /// assert!(!page.confirmed);
     ///
-    /// frame[22] = 9;
+    /// (frame[18], frame[22]) = (1, 9);
     /// scan.offer(&frame)?; // one against one
     /// assert_eq!(scan.read(), Err(Next::ScanAgain));
     ///
-    /// scan.offer(&frame)?;
+    /// scan.offer(&frame)?; // held on the screen: still one against one
+    /// assert_eq!(scan.read(), Err(Next::ScanAgain));
+    ///
+    /// frame[18] = 2;
+    /// scan.offer(&frame)?; // the next frame, with a seed of its own
     /// let page = scan.read().unwrap();
     /// assert_eq!((page.bytes, page.disagreeing()), (&[9][..], 1));
     /// assert!(page.confirmed);
@@ -172,8 +198,9 @@ impl Scan {
     /// let mut scan = Scan::new();
     /// let mut frame = [1, 0, 4, 0, 0, 0, 5, 2, 0, 2, 1, 1, 3, 0, 4, 0, 0, 0, 0, 4, 0, 1, 7];
     /// scan.offer(&frame)?; // one phone saved 7
-    /// frame[22] = 9;
+    /// (frame[18], frame[22]) = (1, 9);
     /// scan.offer(&frame)?; // another saved 9
+    /// frame[18] = 2;
     /// scan.offer(&frame)?;
     ///
     /// let versions = scan.read_both().unwrap();
@@ -252,6 +279,7 @@ impl fmt::Debug for Scan {
         f.debug_struct("Scan")
             .field("expected", &self.expected)
             .field("rows", &self.rows)
+            .field("held", &self.held)
             .field("answer", &self.answer)
             .finish_non_exhaustive()
     }

@@ -22,7 +22,8 @@ use Rattle.apart.specs.Apart.{apart}
 use Rattle.both.specs.Both as spec
 use Rattle.both.specs.Both.{Second, Pair, alone, followed}
 use Rattle.both.specs.Pairs.{countedToo, pairedToo, bothInPairs}
-use Rattle.both.specs.Parts.{second, pair, fitsToo, Passing, SecondEnding, secondly}
+use Rattle.second_room.specs.Fits.{fitsToo}
+use Rattle.both.specs.Parts.{second, pair, Passing, SecondEnding, secondly}
 use Rattle.both.proofs.Pairing.{given, asked, room-refused, both-by, both-alone, both-follow, page-passes, page-cut, page-room, passing}
 
 -- the numbers of the pairs, as pairs again

@@ -32,7 +32,8 @@ use Rattle.reader.specs.Reader.{outcomeOf}
 use Rattle.apart.specs.Apart.{apart}
 use Rattle.both.specs.Both as spec
 use Rattle.both.specs.Both.{Second, lentToo, givenBy, roomyToo, checksBoth, alone, followed, withSecond}
-use Rattle.both.specs.Parts.{pair, fitsToo, Passing}
+use Rattle.second_room.specs.Fits.{fitsToo}
+use Rattle.both.specs.Parts.{pair, Passing}
 
 module _ (n l : ℕ) (list : List ℕ) (lent : Lent) (s : Second) where
   abbrev pub asked : Bool

@@ -1,4 +1,3 @@
 pub mod Both
 pub mod Pairs
-pub mod Numbers
 pub mod Parts

@@ -1,17 +1,13 @@
--- The steps of reading both: the room, and the second list and its reading.
+-- The steps of reading both: the second list and its reading.
 use Prim.Native.Nat.{ℕ, _≤_}
 use mathlib.Core.Path.{_≡_}
-use mathlib.Core.Bool.{Bool, true, false}
 use mathlib.Core.List.{List}
-use lib.Dec.{leb}
 use lib.ListN.{length}
 use Rattle.octets.specs.Octets.{flat, over}
 use Rattle.rows.specs.Rows.{listRowBytes}
 use Rattle.reading.specs.declared.Answer.{Answer}
 use Rattle.reading.specs.Orders.{inListOrder}
 use Rattle.reading.specs.Outcome.{Lent, passes, checks, read}
-use Rattle.checks.specs.declared.Gate.{Gate}
-use Rattle.checks.specs.declared.Gate.the-variants as gates
 use Rattle.both.specs.declared.Both.{Both}
 use Rattle.both.specs.Both.{Second, Pair, lentToo}
 use Rattle.both.specs.Pairs.{countedToo, pairedToo}
@@ -22,15 +18,6 @@ second list page uses roles = record { list = list; page = page; uses = uses; ro
 
 abbrev pub pair : Both → Lent → Second → Pair
 pair answers lent s = record { answers = answers; lent = lent; second = s }
-
--- ---- the room
-
--- Of what the checks 1 to 3 say of the second buffers: whether there is room for a second reading and its list, or 1 or 2 comes first.
-unfoldable pub fitsToo : Gate → ℕ → ℕ → Bool
-fitsToo gates.Open list list₂ = leb list list₂
-fitsToo gates.Shape list list₂ = true
-fitsToo gates.List list list₂ = true
-fitsToo gates.Room list list₂ = false
 
 -- ---- the second list and its reading
 

@@ -4,12 +4,9 @@ ghost use mathlib.Core.Path.{_≡_};
 ghost use Rattle.rows.specs.Rows.{entriesOf};
 ghost use Rattle.rows.specs.Make.{cut};
 ghost use Rattle.reader.specs.Reader.{buffers};
-ghost use Rattle.checks.specs.Gate.{gate};
 ghost use Rattle.apart.specs.Apart.{apart};
 ghost use Rattle.both.specs.Pairs.{countedToo, bothInPairs};
-ghost use Rattle.both.specs.Numbers.{bothNumbers};
-ghost use Rattle.both.specs.Parts.{second, pair, fitsToo, Passing, secondEnding, secondly};
-use checks::Gate;
+ghost use Rattle.both.specs.Parts.{second, pair, Passing, secondEnding, secondly};
 use reading::Answer;
 
 // The answers of both readings, and how many rows the second list has.
@@ -17,29 +14,6 @@ pub struct Both {
     pub first: Answer,
     pub second: Answer,
     pub rows: usize,
-}
-
-// ---- the room
-
-// Whether the second buffers are long enough, or an earlier refusal comes first.
-fn fits_too(
-    n: u8,
-    l: u8,
-    list: usize,
-    list2: usize,
-    page2: usize,
-    uses2: usize,
-    roles2: usize,
-    scratch: usize,
-) -> bool
-    ensures { λ r. ⌜ r ≡ fitsToo (gate n l list page2 uses2 roles2 scratch) list list2 ⌝ }
-{
-    match checks::check(n, l, list, page2, uses2, roles2, scratch) {
-        Gate::Open => list <= list2,
-        Gate::Shape => true,
-        Gate::List => true,
-        Gate::Room => false,
-    }
 }
 
 // ---- the second list
@@ -93,7 +67,7 @@ pub fn read_both(
         (second (now (list2 .entry)) (now (page2 .entry)) (now (uses2 .entry)) (now (roles2 .entry))) ⌝ }
 {
     let none = Answer::Few { rank: 0 };
-    if !fits_too(
+    if !second_room::fits_too(
         n,
         l,
         list.len(),
@@ -134,24 +108,4 @@ pub fn read_both(
         roles2,
         scratch,
     )
-}
-
-// The numbers of both answers in a row.
-pub fn numbers_of(answers: Both) -> [u64; 8]
-    ensures { λ r. ⌜ r ≡ bothNumbers answers ⌝ }
-{
-    let one = answers.first;
-    let other = answers.second;
-    let first = reading::numbers_of(one);
-    let second = reading::numbers_of(other);
-    [
-        first.rank as u64,
-        first.place as u64,
-        first.agreement as u64,
-        second.number as u64,
-        second.rank as u64,
-        second.place as u64,
-        second.agreement as u64,
-        answers.rows as u64,
-    ]
 }

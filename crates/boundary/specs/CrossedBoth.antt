@@ -5,7 +5,7 @@ use Rattle.reading.specs.Answer.{answerNumbers}
 use Rattle.reading.specs.Outcome.{Lent}
 use Rattle.both.specs.Both.{Second}
 use Rattle.both.specs.Pairs.{bothInPairs}
-use Rattle.both.specs.Numbers as both
+use Rattle.both_numbers.specs.Numbers as both
 
 -- The first answer's number, those numbers, and the buffers go across.
 pub record CrossedBoth : Type 0 where

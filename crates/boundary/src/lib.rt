@@ -48,7 +48,7 @@ pub extern "C" fn mekorvat_lay(
     place: &mut usize,
 ) -> u8
     ensures told { λ r. ⌜ told r (now (place .exit)) ≡ laying.toldBy (laying.laid (now (frame .entry)) page n l arrival (now (list .entry))) ⌝ }
-    ensures list { λ r. ⌜ now (list .exit) ≡ laying.listAfter (laying.laid (now (frame .entry)) page n l arrival (now (list .entry))) (listRowBytes l * arrival) (laying.frameRow (now (frame .entry))) (now (list .entry)) ⌝ }
+    ensures list { λ r. ⌜ now (list .exit) ≡ laying.listAfter (laying.laid (now (frame .entry)) page n l arrival (now (list .entry))) (listRowBytes l * arrival) (laying.frameEntry (now (frame .entry))) (now (list .entry)) ⌝ }
 {
     let told = laying::told_by(laying::lay(frame, page, n, l, Arrival(arrival), list));
     *place = told.place;
@@ -113,7 +113,7 @@ pub extern "C" fn mekorvat_read_both(
         roles2,
         scratch,
     );
-    *numbers = both::numbers_of(answers);
+    *numbers = both_numbers::numbers_of(answers);
     let first = answers.first;
     reading::numbers_of(first).number
 }

@@ -1,5 +1,4 @@
--- Lists that have no number twice: a mask leaves none twice; and those of such a list that stand among some of its own numbers are these, in
--- another order.
+-- Lists that have no number twice: those of such a list that stand among some of its own numbers are these, in another order.
 -- Assumes nothing.
 use mathlib.Core.Path.{_≡_, refl, sym, ap, _∙_}
 use Prim.Native.Nat.{ℕ, suc}
@@ -10,38 +9,10 @@ use lib.ListN.{length, length-map}
 use borrow.Author.Tests.{eqb-true, eqb-false, eq-eqb, ne-eqb}
 use Rattle.space.specs.Lists.{select, count, All}
 use Rattle.space.proofs.Lists.{length-select, count-none, count-marked, all-at}
-use Rattle.reading.specs.Marks.{among}
-use Rattle.reading.proofs.KeptPlaces.{among-select}
+use Rattle.reading.specs.Orders.{among}
+use Rattle.reading.proofs.Among.{among-mem, mem-among}
 use Rattle.same_page.specs.SameRows.{SameRows}
 use Rattle.holding.specs.Holds.{Distinct}
-
--- ---- what stands among others
-
-among-mem : (bs : List ℕ) (a : ℕ) → among bs a ≡ true → List·Memᴰ a bs
-unfolding among
-among-mem [] a e = absurd (false≢true e)
-among-mem (b ∷ bs) a e = go (eqb a b) refl e (among-mem bs a)
-  where
-    go : (c : Bool) → eqb a b ≡ c → (c || among bs a) ≡ true → (among bs a ≡ true → List·Memᴰ a bs) → List·Memᴰ a (b ∷ bs)
-    go true i e ih = List·Memᴰ·head (eqb-true a b i)
-    go false i e ih = List·Memᴰ·tail (ih e)
-
-mem-among : (bs : List ℕ) (a : ℕ) → List·Memᴰ a bs → among bs a ≡ true
-unfolding among
-mem-among (b ∷ bs) a (List·Memᴰ·head e) = rw (eq-eqb a b e)
-mem-among (b ∷ bs) a (List·Memᴰ·tail m) = go (eqb a b) (mem-among bs a m)
-  where
-    go : (c : Bool) → among bs a ≡ true → (c || among bs a) ≡ true
-    go true e = refl
-    go false e = e
-
--- a mask leaves none twice
-pub select-distinct : (ks : List Bool) (bs : List ℕ) → Distinct bs → Distinct (select ks bs)
-unfolding select
-select-distinct [] bs d = tt
-select-distinct (k ∷ ks) [] d = tt
-select-distinct (true ∷ ks) (b ∷ bs) d = (among-select ks bs b (d .0), select-distinct ks bs (d .1))
-select-distinct (false ∷ ks) (b ∷ bs) d = select-distinct ks bs (d .1)
 
 -- ---- those that pass a test
 
@@ -91,14 +62,14 @@ count-among : (xs bs : List ℕ) → Distinct xs → Distinct bs → ((a : ℕ) 
 unfolding among
 count-among xs [] d c own = count-none xs
 count-among xs (b ∷ bs) d c own =
-    count-more xs d (among bs) b (c .0) ∙ rw (mem-among xs b (own b (List·Memᴰ·head refl))) (ap suc (count-among xs bs d (c .1) (λ a m. own a (List·Memᴰ·tail m))))
+    count-more xs d (among bs) b (c .0) ∙ rw (mem-among (own b (List·Memᴰ·head refl))) (ap suc (count-among xs bs d (c .1) (λ a m. own a (List·Memᴰ·tail m))))
 
 -- those that stand among some of its own are these
 pub same-among : (xs bs : List ℕ) → Distinct xs → Distinct bs → ((a : ℕ) → List·Memᴰ a bs → List·Memᴰ a xs) → SameRows (select (map (among bs) xs) xs) bs
 same-among xs bs d c own = record {
   size = length-select (map (among bs) xs) xs (length-map xs (among bs)) ∙ count-marked (among bs) xs ∙ count-among xs bs d c own;
   there = λ a m. among-mem bs a (all-at (among bs) (select (map (among bs) xs) xs) (passing (among bs) xs) a m);
-  back = λ a m. passes (among bs) xs a (own a m) (mem-among bs a m);
+  back = λ a m. passes (among bs) xs a (own a m) (mem-among m);
 }
 
 -- and so is what stands at them

@@ -15,16 +15,15 @@ use Rattle.octets.specs.Octets.{over}
 use Rattle.rows.specs.Rows.{vector, rowCount, entriesOf, rowsOf}
 use Rattle.rows.proofs.Lists.{length-entriesOf}
 use Rattle.reading.specs.Reading.{kept, keptRows, picked, pickedRows}
-use Rattle.reading.specs.Orders.{arrivals, taken}
-use Rattle.reading.specs.Marks.{among, valueOf, byArrival, keptArrivals, telling, rolesMarks}
+use Rattle.reading.specs.Orders.{among, arrivals, taken}
+use Rattle.reading.specs.Marks.{valueOf, byArrival, keptArrivals, telling, rolesMarks}
 use Rattle.reading.proofs.KeptPlaces.{among-select, map-tabulate}
-use Rattle.reading.proofs.Listed.{plain-taken}
-use Rattle.order.proofs.Listed.{listed-is}
+use Rattle.reading.proofs.Listed.{taken-arrivals}
 use Rattle.same_page.specs.SameRows.{SameRows}
 use Rattle.holding.specs.Holds.{Distinct}
-use Rattle.holding.proofs.Once.{arrivals-distinct}
+use Rattle.holding.proofs.Once.{select-distinct, arrivals-distinct}
 use Rattle.chosen.specs.Chosen.{chosen}
-use Rattle.concluding.proofs.Apart.{select-distinct, same-among, same-at}
+use Rattle.concluding.proofs.Apart.{same-among, same-at}
 
 -- ---- which arrivals have role 2
 
@@ -82,7 +81,8 @@ module _ (n l : ℕ) (list order : List ℕ) (below : Below (rowCount l list) or
   those = select (picked n rows) (keptArrivals l entries order)
 
   rows-are : rowsOf l list ≡ map rowOf all
-  rows-are = sym (plain-taken l list) ∙ ap (taken l entries) (listed-is l list) ∙ unfold taken in refl
+  unfolding rowsOf
+  rows-are = sym (taken-arrivals l entries) ∙ ap (λ (m : ℕ). taken l entries (arrivals m)) (length-entriesOf l list) ∙ unfold taken in refl
 
   picked-are : pickedRows n rows ≡ map rowOf those
   unfolding pickedRows keptRows keptArrivals

@@ -15,4 +15,5 @@ pub mod Unconfirmed
 pub mod Means
 pub mod Lists
 pub mod Alike
+pub mod Copies
 pub mod Worked

@@ -11,11 +11,14 @@ use borrow.Author.Tests.{eqb-true, ne-eqb}
 use Rattle.space.specs.Lists.{select, marked, count}
 use Rattle.space.specs.Space.{spans}
 use Rattle.space.proofs.Lists.{length-select}
+use Rattle.rows.specs.Rows.{vector}
 use Rattle.reading.specs.Reading.{keptAfter, kept, keptRows, rank, uses, picked}
-use Rattle.reading.specs.Marks.{telling}
-use Rattle.reading.specs.Listed.{spread, listedUses, listedRoles}
+use Rattle.reading.specs.Orders.{taken, inListOrder}
+use Rattle.reading.specs.Marks.{usesMarks, rolesMarks, telling}
 use Rattle.reading.proofs.Kept.{kept-append, length-kept}
 use Rattle.reading.proofs.Pick.{length-uses, length-picked}
+use Rattle.held.specs.Listed.{spread, listedUses, listedRoles}
+use Rattle.held.proofs.Listed.{marks-all, rank-all}
 use Rattle.confirmed.specs.Confirmed.{confirmed, confirmedMarks, Unused}
 
 -- ---- confirmed
@@ -41,6 +44,20 @@ marked-kept rows = sym (length-select (kept rows) rows (length-kept rows))
 pub marks-confirmed : (n : ℕ) (rows : List ℕ) → confirmedMarks (listedRoles telling n rows) (listedUses rows) ≡ confirmed n rows
 unfolding listedRoles listedUses confirmed
 marks-confirmed n rows = spread-confirmed (kept rows) (picked n rows) (uses rows) (length-picked n rows ∙ sym (marked-kept rows)) (length-uses rows ∙ sym (marked-kept rows))
+
+-- so of entries in list order, whatever repeats
+pub listed-confirmed : (n l : ℕ) (entries : List ℕ)
+    → confirmedMarks (rolesMarks telling n l entries (inListOrder entries)) (usesMarks l entries (inListOrder entries)) ≡ confirmed n (taken l entries (inListOrder entries))
+unfolding rolesMarks usesMarks confirmed
+listed-confirmed n l entries =
+    rw (marks-all l entries 0 (map telling (picked n these)), marks-all l entries 65535 (uses these))
+    (spread-confirmed (kept (map (vector l) entries)) (picked n these) (uses these) (length-picked n these ∙ sym number) (length-uses these ∙ sym number))
+  where
+    these : List ℕ
+    these = taken l entries (inListOrder entries)
+
+    number : marked (kept (map (vector l) entries)) ≡ rank these
+    number = marked-kept (map (vector l) entries) ∙ sym (rank-all l entries)
 
 -- ---- not confirmed
 

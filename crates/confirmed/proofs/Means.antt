@@ -20,9 +20,9 @@ use Rattle.rows.specs.Rows.{constraint, agrees}
 use Rattle.rows.proofs.Sums.{constraint-⊕}
 use Rattle.reading.specs.Reading.{rank, few, pickedRows}
 use Rattle.reading.specs.Marks.{telling}
-use Rattle.reading.specs.Listed.{listedUses, listedRoles}
-use Rattle.reading.proofs.Spread.{listed-rows}
 use Rattle.reading.proofs.Page.{length-pageOf, pageOf-below}
+use Rattle.held.specs.Listed.{listedUses, listedRoles}
+use Rattle.held.proofs.Spread.{listed-rows}
 use Rattle.confirmed.specs.Confirmed.{confirmed, IsPage, GivesPage, given, Certain, Unused}
 use Rattle.confirmed.proofs.Masks.{all-split}
 use Rattle.confirmed.proofs.More.{more-confirms}

@@ -7,20 +7,18 @@ use mathlib.Core.Bool.{true}
 use mathlib.Core.List.{List, _∷_, _++_, map}
 use mathlib.Core.Logic.{_↔_}
 use lib.ListN.{length, length-append}
-use Rattle.space.specs.Lists.{All, Below}
+use Rattle.space.specs.Lists.{select, All, Below}
 use Rattle.octets.specs.Octets.{flat, over}
-use Rattle.rows.specs.Rows.{vector, constraint, agrees, made}
+use Rattle.rows.specs.Rows.{constraint, agrees, made}
 use Rattle.rows.proofs.Pages.{agrees-made}
 use Rattle.reading.specs.declared.Answer.the-variants as answer
 use Rattle.reading.specs.Answer.{answerNumbers}
-use Rattle.reading.specs.Reading.{rank}
-use Rattle.reading.specs.Orders.{taken, inListOrder}
-use Rattle.reading.specs.Marks.{telling}
-use Rattle.reading.specs.Listed.{listedUses, listedRoles}
+use Rattle.reading.specs.Reading.{kept, rank, uses, picked}
+use Rattle.reading.specs.Orders.{taken}
+use Rattle.reading.specs.Marks.{byArrival, keptArrivals, usesMarks, rolesMarks, telling}
 use Rattle.reading.specs.Verdict.{answered, verdict}
 use Rattle.reading.specs.Outcome.{Lent, Outcome, zeros, ended, told, read, gave}
 use Rattle.reading.proofs.Pick.{not-few, no-tie}
-use Rattle.reading.proofs.Listed.{taken-all, uses-all, roles-all}
 use Rattle.reading.proofs.Given.{Given, page-given}
 use Rattle.confirmed.specs.Confirmed.{GivesPage, given, Unused, Untold}
 use Rattle.confirmed.proofs.Masks.{all-split}
@@ -40,31 +38,29 @@ gives-exactly n l entries order lent = (λ e. these (page-given n l entries orde
     solves : GivesPage n l (taken l entries order) → gave (read n l entries order lent) ≡ true
     solves g = unfold gave read told ended verdict answerNumbers in rw (g .enough, g .chosen, g .sound)
 
--- what is left of rows of rank n, read in list order: all of them agree
-unfoldable shown : ℕ → ℕ → List ℕ → Lent → Outcome
-shown n l rows lent =
+-- what is left of rows of rank n, taken in an order of m arrivals: all of them agree
+unfoldable shown : ℕ → ℕ → ℕ → List ℕ → List ℕ → Lent → Outcome
+shown n l m order rows lent =
     record {
       answer = answer.Page n (length rows);
       lent =
           record {
             page = over (flat l (given n l rows)) (lent .page);
-            uses = over (listedUses rows) (lent .uses);
-            roles = over (listedRoles telling n rows) (lent .roles);
+            uses = over (byArrival 65535 m (select (kept rows) order) (uses rows)) (lent .uses);
+            roles = over (byArrival 0 m (select (kept rows) order) (map telling (picked n rows))) (lent .roles);
             scratch = over zeros (lent .scratch);
           };
     }
 
-module _ (n l : ℕ) (entries rows : List ℕ) (are : map (vector l) entries ≡ rows) (inside : Below (2 ^ n) (map (constraint l) rows)) (full : rank rows ≡ n) (g : GivesPage n l rows) (lent : Lent) where
-  taken-are : taken l entries (inListOrder entries) ≡ rows
-  taken-are = taken-all l entries ∙ are
-
-  full-answer : verdict n l (taken l entries (inListOrder entries)) ≡ answered (given n l rows)
+module _ (n l : ℕ) (entries order rows : List ℕ) (are : taken l entries order ≡ rows) (inside : Below (2 ^ n) (map (constraint l) rows)) (full : rank rows ≡ n)
+    (g : GivesPage n l rows) (lent : Lent) where
+  full-answer : verdict n l (taken l entries order) ≡ answered (given n l rows)
   unfolding verdict
-  full-answer = rw taken-are (rw (g .enough, g .chosen, g .sound))
+  full-answer = rw are (rw (g .enough, g .chosen, g .sound))
 
-  full-read : read n l entries (inListOrder entries) lent ≡ shown n l rows lent
-  unfolding read told ended shown
-  full-read = rw full-answer (rw (taken-are, rank-agreement n l rows inside full (g .sound), full, uses-all l entries, roles-all l entries telling n, are))
+  full-read : read n l entries order lent ≡ shown n l (length entries) order rows lent
+  unfolding read told ended shown usesMarks rolesMarks keptArrivals
+  full-read = rw full-answer (rw (are, rank-agreement n l rows inside full (g .sound), full))
 
 -- ---- another payload
 
@@ -94,16 +90,16 @@ module _ (n l : ℕ) (before : List ℕ) (r : ℕ) (after : List ℕ) (inside : 
     sound = same-singular l old new moves n ∙ g .sound;
   }
 
-  -- two lists of entries with these rows, read in list order
-  pub unconfirmed : (one two : List ℕ) → map (vector l) one ≡ before ++ r ∷ after → map (vector l) two ≡ before ++ other ∷ after → (lent : Lent)
-      → Untold (read n l one (inListOrder one) lent) (read n l two (inListOrder two) lent)
-  unfolding shown listedUses listedRoles
-  unconfirmed one two first second lent =
-      rw (full-read n l one old first inside full g lent, full-read n l two new second swapped-inside new-full swapped-gives lent)
-      (unfold shown listedUses listedRoles in record {
+  -- two lists of entries of which an order takes these rows
+  pub unconfirmed : (one two order : List ℕ) → length two ≡ length one → taken l one order ≡ before ++ r ∷ after → taken l two order ≡ before ++ other ∷ after → (lent : Lent)
+      → Untold (read n l one order lent) (read n l two order lent)
+  unfolding shown
+  unconfirmed one two order size first second lent =
+      rw (full-read n l one order old first inside full g lent, full-read n l two order new second swapped-inside new-full swapped-gives lent)
+      (unfold shown in record {
         answer = ap (answer.Page n) (length-append before (other ∷ after) ∙ sym (length-append before (r ∷ after)));
-        uses = rw (same-kept l old new moves, same-uses l old new moves);
-        roles = rw (same-kept l old new moves, same-picked l old new moves n);
+        uses = rw (size, same-kept l old new moves, same-uses l old new moves);
+        roles = rw (size, same-kept l old new moves, same-picked l old new moves n);
         scratch = refl;
       })
 

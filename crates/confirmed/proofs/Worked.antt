@@ -7,14 +7,15 @@ use mathlib.Core.List.{[], _∷_, map}
 use Rattle.space.specs.Lists.{select, marked, count, tabulate}
 use Rattle.space.specs.Space.{_⊕_, sumBy, spans, setOf}
 use Rattle.octets.specs.Octets.{number, bytes, numbers, flat}
-use Rattle.rows.specs.Rows.{constraint, payload, agrees, rowCount, entriesOf, vector, rowsOf}
+use Rattle.rows.specs.Rows.{constraint, payload, agrees, rowCount, entriesOf, vector, entered, rowsOf}
 use Rattle.reading.specs.Reading.{keptAfter, kept, keptRows, otherRows, rank, usesOf, uses, picks, picked}
-use Rattle.reading.specs.Listed.{spread, listedUses}
+use Rattle.reading.specs.Orders.{among, countsAfter, counts}
 use Rattle.reading.specs.Worked.{k2, k4, k6, k7, k9, listOf}
+use Rattle.held.specs.Listed.{spread, countedRows, listedUses}
 use Rattle.confirmed.specs.Confirmed.{confirmed, Enough, Unused}
 
-pub worked-confirmed : map (λ k. confirmed (k .n) (rowsOf 1 (listOf k))) (k2 ∷ k4 ∷ k6 ∷ k7 ∷ k9 ∷ []) ≡ false ∷ true ∷ false ∷ true ∷ true ∷ []
-unfolding confirmed listOf picked picks uses usesOf otherRows keptRows kept keptAfter rowsOf entriesOf vector rowCount number bytes numbers flat select count tabulate spans setOf _⊕_
+pub worked-confirmed : map (λ k. confirmed (k .n) (countedRows 1 (listOf k))) (k2 ∷ k4 ∷ k6 ∷ k7 ∷ k9 ∷ []) ≡ false ∷ true ∷ false ∷ true ∷ true ∷ []
+unfolding confirmed listOf entered counts countsAfter among picked picks uses usesOf otherRows keptRows kept keptAfter rowsOf entriesOf vector rowCount number bytes numbers flat select count tabulate spans setOf _⊕_
 worked-confirmed = refl
 
 -- K6: the row (1, 7) before (0, 0)

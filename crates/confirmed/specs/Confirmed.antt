@@ -8,10 +8,10 @@ use mathlib.Core.List.{List, [], _∷_, _++_}
 use lib.Dec.{eqb, leb}
 use lib.ListN.{length, getD, take}
 use Rattle.space.specs.Lists.{select, marked, count, All, Below}
-use Rattle.rows.specs.Rows.{agrees, symbols, rowsOf}
+use Rattle.rows.specs.Rows.{agrees, symbols}
 use Rattle.reading.specs.Reading.{keptRows, rank, uses, picked, pickedRows, pageOf, few, tie, singular}
-use Rattle.reading.specs.Listed.{listedUses}
 use Rattle.reading.specs.Outcome.{Outcome}
+use Rattle.held.specs.Listed.{countedRows, listedUses}
 
 -- Every picked row has a use: none of them has 0.
 unfoldable pub confirmed : ℕ → List ℕ → Bool
@@ -52,10 +52,11 @@ given n l rows = pageOf n l (pickedRows n rows)
 abbrev pub Certain : ℕ → ℕ → List ℕ → Type 0
 Certain n l rows = (page : List ℕ) → IsPage n l page → count (misread l page) rows ≤ 1 → given n l rows ≡ page
 
--- The same of a list of bytes and the page at the front of an outcome's buffer.
+-- The same of a list of bytes and the page at the front of an outcome's buffer: if one row that counts at most was misread. A misread frame that is held on
+-- the screen, and stands thirty times in the list, is one such row.
 abbrev pub CertainList : ℕ → ℕ → List ℕ → Outcome → Type 0
 CertainList n l list o =
-    (page : List ℕ) → length page ≡ n * l → Below 256 page → count (misread l (symbols n l page)) (rowsOf l list) ≤ 1 → take (n * l) (o .lent .page) ≡ page
+    (page : List ℕ) → length page ≡ n * l → Below 256 page → count (misread l (symbols n l page)) (countedRows l list) ≤ 1 → take (n * l) (o .lent .page) ≡ page
 
 -- ---- rows that enough others speak for
 
@@ -69,7 +70,7 @@ pub record Enough (n l : ℕ) (rows page : List ℕ) (b : ℕ) : Type 0 where
 
 -- ---- a row that nothing speaks for
 
--- The row r, after some rows and before others in list order, is kept and has no use: its mark is 0.
+-- Of rows that all count, the row r, after some and before others, is kept and has no use: its mark is 0.
 abbrev pub Unused : List ℕ → ℕ → List ℕ → Type 0
 Unused before r after = getD (listedUses (before ++ r ∷ after)) (length before) 65535 ≡ 0
 

@@ -10,7 +10,7 @@ use Rattle.laying.specs.declared.Laid.{Laid}
 use Rattle.laying.specs.declared.Laid.the-variants as laids
 use Rattle.frame.specs.Reading.{reading}
 use Rattle.frame.specs.Numbers.{isGood}
-use Rattle.laying.specs.Laying.{samePage, placing, laid, numberOf, listAfter, frameRow}
+use Rattle.laying.specs.Laying.{samePage, placing, laid, numberOf, listAfter, frameEntry}
 use Rattle.crossing.specs.Held.{Held, offered}
 use Rattle.crossing.specs.Caught.{ofPage}
 
@@ -41,4 +41,4 @@ module _ (number n l : ℕ) where
   unfolding offered
   refused-offered frame e s =
       let refused = refused-laid frame e (s .rows) (s .list) in
-      rw (refused, same-list (laid frame number n l (s .rows) (s .list)) (listRowBytes l * s .rows) (frameRow frame) (s .list) refused)
+      rw (refused, same-list (laid frame number n l (s .rows) (s .list)) (listRowBytes l * s .rows) (frameEntry frame) (s .list) refused)

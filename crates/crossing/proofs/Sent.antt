@@ -1,5 +1,5 @@
--- From a page to a row: what writing leaves in the room reads as itself, is laid wherever there is a place, and gives the row that
--- making gives for the drawn constraint, which agrees with the page. Assumes nothing.
+-- From a page to a row: what writing leaves in the room reads as itself, is laid wherever there is a place, and gives the row that making gives for
+-- the drawn constraint, with the same seed in front; the row agrees with the page. Assumes nothing.
 use mathlib.Core.Path.{_≡_, refl, ap, _∙_}
 use Prim.Native.Nat.{ℕ, _^_, _<_}
 use mathlib.Core.Bool.{Bool, true, not}
@@ -11,7 +11,7 @@ use Rattle.octets.specs.Octets.{number, bytes}
 use Rattle.octets.proofs.Numbers.{length-bytes}
 use Rattle.octets.proofs.Runs.{take-over}
 use Rattle.rows.specs.Rows.{shape, symbols, agrees}
-use Rattle.rows.specs.Make.{rowOf}
+use Rattle.rows.specs.Make.{rowOf, entryOf}
 use Rattle.rows.proofs.Written.{rowOf-agrees}
 use Rattle.rows.proofs.Shape.{shape-range}
 use Rattle.draw.specs.Draw.{constraint}
@@ -20,9 +20,9 @@ use Rattle.writing.specs.declared.Written.the-variants.{Done, Shape}
 use Rattle.frame.specs.declared.Frame.the-variants as frames
 use Rattle.frame.specs.Layout.{frameLength}
 use Rattle.frame.specs.Reading.{reading}
-use Rattle.frame.specs.Numbers.{payloadOf}
+use Rattle.frame.specs.Numbers.{frameNumbers, payloadOf}
 use Rattle.writing.specs.Writing.{numberOf, writeAnswer, sumBytes, frameOf, roomAfter}
-use Rattle.laying.specs.Laying.{placing, laid, frameRow}
+use Rattle.laying.specs.Laying.{placing, laid, frameRow, frameEntry}
 use Rattle.frame.proofs.Tests.{passes}
 use Rattle.draw.proofs.Inside.{draws-below}
 use Rattle.frame.proofs.Lengths.{length-frame}
@@ -54,6 +54,10 @@ module _ (p n l seed : ℕ) (page : List ℕ) (small : p < 2 ^ 32) (seeded : see
   unfolding rowOf sumBytes
   frame-row = row-is (frameOf p n l seed page) p n l seed frame-reads ∙ ap (λ t. bytes 8 (constraint n seed) ++ t) frame-payload
 
+  pub frame-entry : frameEntry (frameOf p n l seed page) ≡ entryOf n l seed (constraint n seed) page
+  unfolding frameEntry frameNumbers entryOf
+  frame-entry = rw frame-reads (rw frame-row)
+
 -- ---- what writing leaves in the room
 
 module _ (p n l seed : ℕ) (page room : List ℕ) (small : p < 2 ^ 32) (seeded : seed < 2 ^ 32) (done : writeAnswer n l page room ≡ Done) where
@@ -77,6 +81,10 @@ module _ (p n l seed : ℕ) (page room : List ℕ) (small : p < 2 ^ 32) (seeded 
   -- the row that making writes for the drawn constraint
   pub sent-row : frameRow (sent p n l seed page room) ≡ rowOf n l (constraint n seed) page
   sent-row = rw sent-is (frame-row p n l seed page small seeded s)
+
+  -- and with the seed in front the entry that it writes
+  pub sent-entry : frameEntry (sent p n l seed page room) ≡ entryOf n l seed (constraint n seed) page
+  sent-entry = rw sent-is (frame-entry p n l seed page small seeded s)
 
   pub sent-agrees : Below 256 page → agrees l (symbols n l page) (number (frameRow (sent p n l seed page room))) ≡ true
   sent-agrees b = rw sent-row (rowOf-agrees n l page b (constraint n seed) (draws-below n seed (shape-range n l s .n-low) (shape-range n l s .n-high)))

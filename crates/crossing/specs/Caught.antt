@@ -3,7 +3,7 @@ use Prim.Native.Nat.{ℕ, _^_, _<_}
 use mathlib.Core.Path.{_≡_}
 use mathlib.Core.Bool.{Bool, false, _&&_}
 use mathlib.Core.List.{List, [], _∷_, map}
-use Rattle.rows.specs.Rows.{symbols, made}
+use Rattle.rows.specs.Rows.{symbols, made, entered}
 use Rattle.draw.specs.Draw as draw
 use Rattle.frame.specs.Reading.{reading}
 use Rattle.frame.specs.Numbers.{isGood}
@@ -40,6 +40,12 @@ Mixed number n l Right (other frame ∷ caught) = (ofPage number n l frame ≡ f
 abbrev pub IsSeed : ℕ → Type 0
 IsSeed seed = seed < 2 ^ 32
 
--- The rows that a page gives for seeds.
+-- The rows that a page gives for seeds, and the entries that these are in a list.
+abbrev pub rowFor : ℕ → ℕ → List ℕ → ℕ → ℕ
+rowFor n l page seed = made l (symbols n l page) (draw.constraint n seed)
+
 unfoldable pub rowsFor : ℕ → ℕ → List ℕ → List ℕ → List ℕ
-rowsFor n l page seeds = map (λ seed. made l (symbols n l page) (draw.constraint n seed)) seeds
+rowsFor n l page seeds = map (rowFor n l page) seeds
+
+unfoldable pub entriesFor : ℕ → ℕ → List ℕ → List ℕ → List ℕ
+entriesFor n l page seeds = map (λ seed. entered l seed (rowFor n l page seed)) seeds

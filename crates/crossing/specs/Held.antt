@@ -5,7 +5,7 @@ use mathlib.Core.List.{List, [], _∷_}
 use lib.Dec.{eqb}
 use lib.ListN.{take}
 use Rattle.rows.specs.Rows.{listRowBytes}
-use Rattle.laying.specs.Laying.{laid, numberOf, listAfter, frameRow}
+use Rattle.laying.specs.Laying.{laid, numberOf, listAfter, frameEntry}
 
 -- The list lent for the rows, and how many are laid in it.
 pub record Held : Type 0 where
@@ -20,7 +20,7 @@ blank list = record { list = list; rows = 0 }
 unfoldable pub offered : ℕ → ℕ → ℕ → List ℕ → Held → Held
 offered number n l frame s =
     record {
-      list = listAfter (laid frame number n l (s .rows) (s .list)) (listRowBytes l * s .rows) (frameRow frame) (s .list);
+      list = listAfter (laid frame number n l (s .rows) (s .list)) (listRowBytes l * s .rows) (frameEntry frame) (s .list);
       rows = cond (eqb (numberOf (laid frame number n l (s .rows) (s .list))) 0) (suc (s .rows)) (s .rows);
     }
 

@@ -60,7 +60,7 @@ module _ (l : ℕ) (entries order : List ℕ) (takes : Takes entries order) wher
       let k = Memᴰ·of-map row order m in
       Memᴰ·cast (sym (k .2)) (Memᴰ·map (vector l) (mem-at entries (k .0) (arrives (k .0) (k .1))))
 
-  taken-each : (r : ℕ) → List·Memᴰ r (map (vector l) entries) → List·Memᴰ r (taken l entries order)
+  pub taken-each : (r : ℕ) → List·Memᴰ r (map (vector l) entries) → List·Memᴰ r (taken l entries order)
   unfolding taken
   taken-each r m =
       let k = Memᴰ·of-map (vector l) entries m in

@@ -82,7 +82,7 @@ fn readings(k: usize) {
 }
 
 fn of_whole(frame: &[u8], b: Base, size: usize)
-    requires { ⌜ size ≤ 125 ⌝ }
+    requires { ⌜ size ≤ 137 ⌝ }
 {
     let mut i: usize = 0;
     while i < 11 {
@@ -93,7 +93,7 @@ fn of_whole(frame: &[u8], b: Base, size: usize)
 
 // A frame that is a byte short, and one with a byte behind it.
 fn of_lengths(room: &[u8], b: Base, end: usize, size: usize)
-    requires { ⌜ (length (now room) ≡ 57) × (1 ≤ end) × (end ≤ 54) × (size ≤ 125) ⌝ }
+    requires { ⌜ (length (now room) ≡ 57) × (1 ≤ end) × (end ≤ 54) × (size ≤ 137) ⌝ }
 {
     let short = end - 1;
     let long = end + 1;
@@ -103,7 +103,7 @@ fn of_lengths(room: &[u8], b: Base, end: usize, size: usize)
 
 // Lists that end a byte before the row's end, and right there.
 fn into_lists(frame: &[u8], b: Base, row: usize)
-    requires { ⌜ (1 ≤ row) × (row ≤ 40) ⌝ }
+    requires { ⌜ (1 ≤ row) × (row ≤ 44) ⌝ }
 {
     print::laying(frame, b, 1, 2 * row - 1);
     print::laying(frame, b, 1, 2 * row);

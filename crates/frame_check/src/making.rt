@@ -25,34 +25,34 @@ fn outside(all: u64) -> u64 {
 }
 
 fn constraints(page: &[u8], b: Base, all: u64, row: usize)
-    requires { ⌜ row ≤ 40 ⌝ }
+    requires { ⌜ row ≤ 44 ⌝ }
 {
     let size = row + 3;
-    print::making(b.n, b.l, 0, page, size);
-    print::making(b.n, b.l, 1, page, size);
-    print::making(b.n, b.l, all - all / 2, page, size);
-    print::making(b.n, b.l, all, page, size);
-    print::making(b.n, b.l, MIXED & all, page, size);
-    print::making(b.n, b.l, outside(all), page, size);
-    print::making(b.n, b.l, u64::MAX, page, size);
+    print::making(b.n, b.l, b.seed, 0, page, size);
+    print::making(b.n, b.l, b.seed, 1, page, size);
+    print::making(b.n, b.l, b.seed, all - all / 2, page, size);
+    print::making(b.n, b.l, b.seed, all, page, size);
+    print::making(b.n, b.l, b.seed, MIXED & all, page, size);
+    print::making(b.n, b.l, b.seed, outside(all), page, size);
+    print::making(b.n, b.l, b.seed, u64::MAX, page, size);
 }
 
 // Rooms that end at the row's end, a byte before it, and at once.
 fn rooms(page: &[u8], b: Base, all: u64, row: usize)
-    requires { ⌜ (1 ≤ row) × (row ≤ 40) ⌝ }
+    requires { ⌜ (1 ≤ row) × (row ≤ 44) ⌝ }
 {
-    print::making(b.n, b.l, all, page, row);
-    print::making(b.n, b.l, all, page, row - 1);
-    print::making(b.n, b.l, all, page, 0);
+    print::making(b.n, b.l, b.seed, all, page, row);
+    print::making(b.n, b.l, b.seed, all, page, row - 1);
+    print::making(b.n, b.l, b.seed, all, page, 0);
 }
 
 fn shapes(page: &[u8], b: Base, all: u64, row: usize)
-    requires { ⌜ row ≤ 40 ⌝ }
+    requires { ⌜ row ≤ 44 ⌝ }
 {
-    print::making(0, b.l, all, page, row);
-    print::making(65, b.l, all, page, row);
-    print::making(b.n, 0, all, page, row);
-    print::making(b.n, 33, all, page, row);
+    print::making(0, b.l, b.seed, all, page, row);
+    print::making(65, b.l, b.seed, all, page, row);
+    print::making(b.n, 0, b.seed, all, page, row);
+    print::making(b.n, 33, b.seed, all, page, row);
 }
 
 // A page that is a byte short, one with a byte behind it, and none.
@@ -61,19 +61,19 @@ fn pages(page: &[u8], b: Base, all: u64, end: usize)
 {
     let short = end - 1;
     let long = end + 1;
-    print::making(b.n, b.l, all, &page[0..short], 40);
-    print::making(b.n, b.l, all, &page[0..long], 40);
-    print::making(b.n, b.l, all, &page[0..0], 40);
+    print::making(b.n, b.l, b.seed, all, &page[0..short], 44);
+    print::making(b.n, b.l, b.seed, all, &page[0..long], 44);
+    print::making(b.n, b.l, b.seed, all, &page[0..0], 44);
 }
 
 // Two refusals at a time: the one that comes first in the order is given.
 fn orders(page: &[u8], b: Base, stray: u64, end: usize, row: usize)
-    requires { ⌜ (length (now page) ≡ 2049) × (end ≤ 2048) × (1 ≤ row) × (row ≤ 40) ⌝ }
+    requires { ⌜ (length (now page) ≡ 2049) × (end ≤ 2048) × (1 ≤ row) × (row ≤ 44) ⌝ }
 {
     let long = end + 1;
-    print::making(0, b.l, stray, &page[0..long], row);
-    print::making(b.n, b.l, stray, &page[0..long], row);
-    print::making(b.n, b.l, stray, &page[0..end], row - 1);
+    print::making(0, b.l, b.seed, stray, &page[0..long], row);
+    print::making(b.n, b.l, b.seed, stray, &page[0..long], row);
+    print::making(b.n, b.l, b.seed, stray, &page[0..end], row - 1);
 }
 
 fn rows_of(page: &[u8], b: Base)

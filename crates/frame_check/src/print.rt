@@ -8,10 +8,10 @@ use places::Arrival;
 use rows::Made;
 
 // Three of the longest rows, and five bytes.
-const LIST: usize = 125;
+const LIST: usize = 137;
 
 // The longest row, and three bytes.
-const ROOM: usize = 43;
+const ROOM: usize = 47;
 
 fn number(x: u64) {
     io::print_decimal(STDOUT_FILENO, x);
@@ -79,7 +79,7 @@ fn laying_in(list: &mut [u8], frame: &[u8], b: Base, arrival: usize, size: usize
 
 // Number, place and the whole of a fresh list afterwards, of bytes 170 before.
 pub(crate) fn laying(frame: &[u8], b: Base, arrival: usize, size: usize)
-    requires { ⌜ size ≤ 125 ⌝ }
+    requires { ⌜ size ≤ 137 ⌝ }
 {
     let mut list = [170u8; LIST];
     laying_in(&mut list, frame, b, arrival, size);
@@ -95,18 +95,18 @@ fn number_of(answer: Made) -> u64 {
     }
 }
 
-fn making_in(room: &mut [u8], n: u8, l: u8, constraint: u64, page: &[u8], size: usize)
+fn making_in(room: &mut [u8], n: u8, l: u8, seed: u32, constraint: u64, page: &[u8], size: usize)
     requires { ⌜ size ≤ length (now room) ⌝ }
 {
-    let answer = rows::make(n, l, constraint, page, &mut room[0..size]);
+    let answer = rows::make(n, l, seed, constraint, page, &mut room[0..size]);
     number(number_of(answer));
     bytes(&room[0..size]);
 }
 
 // Number and the whole of a fresh room afterwards, of bytes 170 before.
-pub(crate) fn making(n: u8, l: u8, constraint: u64, page: &[u8], size: usize)
-    requires { ⌜ size ≤ 43 ⌝ }
+pub(crate) fn making(n: u8, l: u8, seed: u32, constraint: u64, page: &[u8], size: usize)
+    requires { ⌜ size ≤ 47 ⌝ }
 {
     let mut room = [170u8; ROOM];
-    making_in(&mut room, n, l, constraint, page, size);
+    making_in(&mut room, n, l, seed, constraint, page, size);
 }

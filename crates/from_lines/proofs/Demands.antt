@@ -6,7 +6,7 @@ use mathlib.Core.Bool.{true}
 use mathlib.Core.List.{List, [], _∷_}
 use lib.ListN.{length}
 use borrow.Author.Tests.{eq-eqb}
-use Rattle.space.specs.Lists.{Below}
+use Rattle.space.specs.Lists.{marked, Below}
 use Rattle.octets.specs.Octets.{xorBytes}
 use Rattle.rows.specs.Rows.{shape, listRowBytes}
 use Rattle.frame.specs.Numbers.{frameNumbers}
@@ -14,15 +14,15 @@ use Rattle.laying.specs.Laying.{samePage}
 use Rattle.writing.specs.Writing.{frameOf}
 use Rattle.reading.specs.declared.Answer.the-variants as answer
 use Rattle.reading.specs.Reading.{rank}
-use Rattle.reading.specs.Orders.{inListOrder}
+use Rattle.reading.specs.Orders.{counts, inListOrder}
 use Rattle.reading.specs.Marks.{telling}
 use Rattle.reading.specs.Outcome.{Lent, roomy, outcome, ended}
 use Rattle.reading.specs.Added.{added}
 use Rattle.crossing.specs.Held.{blank, offeredAll, listHeld, listLaid}
-use Rattle.crossing.specs.Caught.{Caught, own, other, framesOf, ownOf, Mixed, IsSeed, rowsFor}
+use Rattle.crossing.specs.Caught.{Caught, own, other, framesOf, ownOf, Mixed, IsSeed, rowsFor, entriesFor}
 use Rattle.crossing.specs.Taken.{Take, IsTake, taken}
 use Rattle.crossing.proofs.Laid.{Own}
-use Rattle.crossing.proofs.Flipped.{rowTaken, taken-own}
+use Rattle.crossing.proofs.Flipped.{entryTaken, taken-own}
 use Rattle.crossing.proofs.Demand2.{frame-own, crossing-2}
 use Rattle.crossing.proofs.Demand3.{crossing-3}
 use Rattle.lines.specs.declared.Expected.the-variants.{Only}
@@ -31,12 +31,12 @@ use Rattle.from_lines.proofs.Joined.{lines-lay}
 
 module _ (number n l : ℕ) where
   -- a frame of the page that comes first is the first good one
-  own-first : {A : Type 0} (make : A → List ℕ) (row : A → ℕ) (Right : A → Type 0) → ((a : A) → Right a → Own number n l (make a) (row a))
+  own-first : {A : Type 0} (make : A → List ℕ) (entry : A → ℕ) (Right : A → Type 0) → ((a : A) → Right a → Own number n l (make a) (entry a))
       → (caught : List (Caught A)) → Mixed number n l Right caught → OwnFirst caught → firstOfPage number n l (framesOf make caught) ≡ true
   unfolding firstOfPage framesOf
-  own-first make row Right owns [] m f = absurd f
-  own-first make row Right owns (own a ∷ caught) m f = rw (owns a (m .0) .reads) (unfold frameNumbers samePage in rw (eq-eqb number number refl, eq-eqb n n refl, eq-eqb l l refl))
-  own-first make row Right owns (other frame ∷ caught) m f = rw (f .0) (own-first make row Right owns caught (m .1) (f .1))
+  own-first make entry Right owns [] m f = absurd f
+  own-first make entry Right owns (own a ∷ caught) m f = rw (owns a (m .0) .reads) (unfold frameNumbers samePage in rw (eq-eqb number number refl, eq-eqb n n refl, eq-eqb l l refl))
+  own-first make entry Right owns (other frame ∷ caught) m f = rw (f .0) (own-first make entry Right owns caught (m .1) (f .1))
 
   -- what lines have left, whose frames those are: the page, and the list of the frames laid one after the other
   module _ (lines frames : List (List ℕ)) (are : framesIn lines ≡ frames) (first : firstOfPage number n l frames ≡ true) (list : List ℕ) where
@@ -59,7 +59,7 @@ module _ (number n l : ℕ) (page : List ℕ) (small : number < 2 ^ 32) (s : sha
   pub lines-2 : n ≤ rank (rowsFor n l page (ownOf caught))
       → (takenAll lines (started list) .expected ≡ Only (record { number = number; n = n; l = l }))
       × (outcome n l (listHeld l (takenAll lines (started list) .held)) lent
-      ≡ ended n l (rowsFor n l page (ownOf caught)) (inListOrder (rowsFor n l page (ownOf caught))) lent (answer.Page n (length (ownOf caught))) telling page)
+      ≡ ended n l (entriesFor n l page (ownOf caught)) (inListOrder (entriesFor n l page (ownOf caught))) lent (answer.Page n (marked (counts (ownOf caught)))) telling page)
   lines-2 enough = (
     page-expected number n l lines _ are good list,
     ap (λ (bytes : List ℕ). outcome n l bytes lent) (list-read number n l lines _ are good list) ∙ crossing-2 number n l page small s size b caught m most list room lent roomed enough,
@@ -86,4 +86,4 @@ module _ (number n l : ℕ) (small : number < 2 ^ 32) (s : shape n l ≡ true)
   )
     where
       good : (page : List ℕ) → Below 256 page → firstOfPage number n l (framesOf (taken number n l page) caught) ≡ true
-      good page b = own-first number n l (taken number n l page) (rowTaken n l page) (IsTake l) (λ t a. taken-own number n l page small s b t a) caught m first
+      good page b = own-first number n l (taken number n l page) (entryTaken n l page) (IsTake l) (λ t a. taken-own number n l page small s b t a) caught m first

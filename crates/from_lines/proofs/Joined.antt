@@ -12,7 +12,7 @@ use Rattle.rows.specs.Rows.{listRowBytes}
 use Rattle.frame.specs.Reading.{reading}
 use Rattle.frame.specs.Numbers.{frameNumbers, isGood}
 use Rattle.frame.specs.Numbers.{numberOf as numberOf-of, placeOf as placeOf-of}
-use Rattle.laying.specs.Laying.{samePage, laid, numberOf, placeOf, listAfter, frameRow}
+use Rattle.laying.specs.Laying.{samePage, laid, numberOf, placeOf, listAfter, frameEntry}
 use Rattle.crossing.specs.Held.{Held, blank, offered, offeredAll}
 use Rattle.crossing.specs.Caught.{ofPage}
 use Rattle.crossing.proofs.Refused.{refused-offered}
@@ -49,7 +49,7 @@ module _ (number n l : ℕ) where
   unfolding layOn offered
   laid-on frame h =
       let answer = laid frame number n l (h .rows) (h .list) in
-      ap (λ (rows : ℕ). expects (record { list = listAfter answer (listRowBytes l * h .rows) (frameRow frame) (h .list); rows = rows })) (rows-same (numberOf answer) (placeOf answer) (h .rows))
+      ap (λ (rows : ℕ). expects (record { list = listAfter answer (listRowBytes l * h .rows) (frameEntry frame) (h .list); rows = rows })) (rows-same (numberOf answer) (placeOf answer) (h .rows))
 
   frame-over : (frame : List ℕ) (h : Held) → leftBy (takeFrame frame (record { expected = Only page; rows = h .rows }) (h .list)) ≡ expects (offered number n l frame h)
   unfolding takeFrame expecting

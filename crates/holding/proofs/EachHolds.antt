@@ -12,7 +12,8 @@ use Rattle.space.specs.Space.{spans}
 use Rattle.space.specs.Lists.{Below, select}
 use Rattle.octets.specs.Octets.{number}
 use Rattle.rows.specs.Rows.{rowBytes, vector, rowCount, entriesOf, rowsOf}
-use Rattle.rows.proofs.Lists.{vector-whole, length-entriesOf}
+use Rattle.rows.proofs.Entries.{vector-whole}
+use Rattle.rows.proofs.Lists.{length-entriesOf}
 use Rattle.lists.specs.Lists.{rowAt}
 use Rattle.lists.proofs.Rows.{row-length, row-number}
 use Rattle.reading.specs.Reading.{kept, keptAfter, keptRows, rank}

@@ -12,7 +12,7 @@ use Rattle.space.specs.Space.{spans}
 use Rattle.space.specs.Lists.{Below}
 use Rattle.space.proofs.Lists.{below-map, below-append}
 use Rattle.rows.specs.Rows.{rowBytes, vector}
-use Rattle.rows.proofs.Lists.{vector-lt}
+use Rattle.rows.proofs.Entries.{vector-lt}
 use Rattle.reading.specs.Reading.{keptRows, rank, uses}
 use Rattle.reading.specs.Orders.{taken}
 use Rattle.reading.proofs.Pick.{length-uses}

@@ -1,5 +1,5 @@
--- Orders that take no arrival twice: what stands in one was not taken before; an order that has each number at most once is one; and so are the
--- arrivals of a list.
+-- Orders that take no arrival twice: what stands in one was not taken before; an order that has each number at most once is one; a mask
+-- leaves none twice; and the arrivals of a list are such an order.
 -- Assumes nothing.
 use mathlib.Core.Path.{_≡_, refl, sym}
 use mathlib.Core.Bool.{Bool, true, false, cond, _||_, true≢false}
@@ -8,9 +8,9 @@ use Prim.Native.Nat.{ℕ, zero, suc, _≤_, _<_}
 use native.Mathlib.Omega.{arith}
 use lib.Dec.{eqb}
 use borrow.Author.Tests.{eqb-false, eq-eqb, ne-eqb}
-use Rattle.space.specs.Lists.{count, tabulate, Below}
-use Rattle.reading.specs.Orders.{arrivals}
-use Rattle.reading.specs.Marks.{among}
+use Rattle.space.specs.Lists.{select, count, tabulate, Below}
+use Rattle.reading.specs.Orders.{arrivals, among}
+use Rattle.reading.proofs.KeptPlaces.{among-select}
 use Rattle.holding.specs.Holds.{Distinct}
 
 -- what stands somewhere among others is not a number that isn't
@@ -55,6 +55,15 @@ once-distinct (b ∷ order) h = (not-among b order first, once-distinct order (�
     rest : (a : ℕ) (c : Bool) → cond c (suc (count (eqb a) order)) (count (eqb a) order) ≤ 1 → count (eqb a) order ≤ 1
     rest a true h = omega arith
     rest a false h = h
+
+-- ---- a mask leaves none twice
+
+pub select-distinct : (ks : List Bool) (bs : List ℕ) → Distinct bs → Distinct (select ks bs)
+unfolding select
+select-distinct [] bs d = tt
+select-distinct (k ∷ ks) [] d = tt
+select-distinct (true ∷ ks) (b ∷ bs) d = (among-select ks bs b (d .0), select-distinct ks bs (d .1))
+select-distinct (false ∷ ks) (b ∷ bs) d = select-distinct ks bs (d .1)
 
 -- ---- the arrivals of a list
 

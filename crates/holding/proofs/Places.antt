@@ -9,8 +9,8 @@ use lib.ListN.{length, getD, set, replicate}
 use lib.Seq.{set-getD}
 use Rattle.space.specs.Lists.{select, tabulate}
 use Rattle.reading.specs.Reading.{kept, keptAfter}
-use Rattle.reading.specs.Orders.{taken}
-use Rattle.reading.specs.Marks.{among, valueOf, byArrival, keptArrivals, placesGiven}
+use Rattle.reading.specs.Orders.{among, taken}
+use Rattle.reading.specs.Marks.{valueOf, byArrival, keptArrivals, placesGiven}
 
 -- ---- an arrival that is not taken
 

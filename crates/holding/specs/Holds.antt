@@ -7,8 +7,8 @@ use lib.ListN.{length}
 use Rattle.places.specs.Places.{mostRows}
 use Rattle.rows.specs.Rows.{rowBytes, entriesOf}
 use Rattle.reading.specs.Reading.{rank, uses}
-use Rattle.reading.specs.Orders.{taken}
-use Rattle.reading.specs.Marks.{among, placesGiven}
+use Rattle.reading.specs.Orders.{among, taken}
+use Rattle.reading.specs.Marks.{placesGiven}
 use Rattle.basis.specs.Algorithm2.{algorithm2}
 use Rattle.state.specs.Layout.{stateBytes, slotsIn, usesIn, placesIn, orderIn}
 use Rattle.echelon.specs.declared.Eliminated.the-variants.{Rank}

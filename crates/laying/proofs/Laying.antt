@@ -9,7 +9,7 @@ use lib.ListN.{length, take, drop}
 use borrow.Author.Tests.{lt-ltb, le-ltb, eq-eqb, eqb-false}
 use Rattle.octets.specs.Octets.{bytes}
 use Rattle.octets.proofs.Lay.{part-lay}
-use Rattle.rows.specs.Rows.{shape, listRowBytes}
+use Rattle.rows.specs.Rows.{shape, seedBytes, listRowBytes}
 use Rattle.draw.specs.Draw.{constraint}
 use Rattle.laying.specs.declared.Laid.the-variants.{Row, Shape, Refused, OtherPage, Full, Room}
 use Rattle.frame.specs.declared.Frame.{Frame}
@@ -18,7 +18,7 @@ use Rattle.laying.specs.declared.Laid.{Laid}
 use Rattle.frame.specs.Reading.{reading}
 use Rattle.frame.specs.Numbers.{frameNumbers, isGood, payloadOf}
 use Rattle.frame.specs.Numbers as frames
-use Rattle.laying.specs.Laying.{numberOf, samePage, placing, laid, frameRow, listAfter}
+use Rattle.laying.specs.Laying.{numberOf, samePage, placing, laid, frameRow, frameEntry, listAfter}
 
 -- ---- the place
 
@@ -87,8 +87,12 @@ pub row-is : (frame : List ℕ) (p n l seed : ℕ) → reading frame ≡ good.Go
 unfolding frameRow frameNumbers
 row-is frame p n l seed g = rw g
 
--- a row that was laid is there
-pub laid-there : (l arrival : ℕ) (row list : List ℕ) → length row ≡ listRowBytes l → listRowBytes l * arrival ≤ length list
-    → take (listRowBytes l) (drop (listRowBytes l * arrival) (listAfter Row (listRowBytes l * arrival) row list)) ≡ row
+pub entry-is : (frame : List ℕ) (p n l seed : ℕ) → reading frame ≡ good.Good p n l seed → frameEntry frame ≡ bytes seedBytes seed ++ (bytes 8 (constraint n seed) ++ payloadOf frame)
+unfolding frameEntry frameNumbers
+entry-is frame p n l seed g = rw (row-is frame p n l seed g) (rw g)
+
+-- an entry that was laid is there
+pub laid-there : (l arrival : ℕ) (entry list : List ℕ) → length entry ≡ listRowBytes l → listRowBytes l * arrival ≤ length list
+    → take (listRowBytes l) (drop (listRowBytes l * arrival) (listAfter Row (listRowBytes l * arrival) entry list)) ≡ entry
 unfolding listAfter
-laid-there l arrival row list e h = part-lay (listRowBytes l * arrival) (listRowBytes l) row list e h
+laid-there l arrival entry list e h = part-lay (listRowBytes l * arrival) (listRowBytes l) entry list e h

@@ -7,7 +7,7 @@ use lib.Dec.{eqb, ltb}
 use lib.ListN.{length}
 use Rattle.octets.specs.Octets.{bytes}
 use Rattle.octets.specs.Octets as octets
-use Rattle.rows.specs.Rows.{shape, listRowBytes}
+use Rattle.rows.specs.Rows.{shape, seedBytes, listRowBytes}
 use Rattle.draw.specs.Draw.{constraint}
 use Rattle.frame.specs.declared.Frame.{Frame}
 use Rattle.laying.specs.declared.Laid.{Laid}
@@ -59,11 +59,15 @@ laid frame page n l arrival list =
 unfoldable pub frameRow : List ℕ → List ℕ
 frameRow frame = bytes 8 (constraint (frames.frameNumbers (reading frame) .n) (frames.frameNumbers (reading frame) .seed)) ++ frames.payloadOf frame
 
+-- What stands for it in a list. Document 02, wish 3: "the 4-byte seed in front"; "Laying carries the seed".
+unfoldable pub frameEntry : List ℕ → List ℕ
+frameEntry frame = bytes seedBytes (frames.frameNumbers (reading frame) .seed) ++ frameRow frame
+
 -- "The row goes into the middle of the caller's list, .. and no byte on either side of it changes. .. Refused, they write nothing."
 unfoldable pub listAfter : Laid → ℕ → List ℕ → List ℕ → List ℕ
-listAfter Row at row list = octets.lay at row list
-listAfter Shape at row list = list
-listAfter (Refused f) at row list = list
-listAfter OtherPage at row list = list
-listAfter Full at row list = list
-listAfter Room at row list = list
+listAfter Row at entry list = octets.lay at entry list
+listAfter Shape at entry list = list
+listAfter (Refused f) at entry list = list
+listAfter OtherPage at entry list = list
+listAfter Full at entry list = list
+listAfter Room at entry list = list

@@ -5,10 +5,10 @@ ghost use mathlib.Core.Bool.{true};
 ghost use mathlib.Core.List.{_++_};
 ghost use lib.ListN.{length};
 ghost use Rattle.octets.specs.Octets.{bytes};
-ghost use Rattle.rows.specs.Rows.{shape, listRowBytes};
+ghost use Rattle.rows.specs.Rows.{shape, seedBytes, headBytes, listRowBytes};
 ghost use Rattle.draw.specs.Draw.{constraint};
 ghost use Rattle.frame.specs.Numbers.{payloadOf};
-ghost use Rattle.laying.specs.Laying.{placing, laid, frameRow, listAfter, toldBy};
+ghost use Rattle.laying.specs.Laying.{placing, laid, frameEntry, listAfter, toldBy};
 use draw::Drawn;
 use frame::Frame;
 use places::Arrival;
@@ -32,20 +32,20 @@ pub struct Told {
 // "2, arrival number over 511".
 const LAST_ARRIVAL: usize = 511;
 
-// "the constraint as a big-endian 64-bit number, .. then the payload."
-fn put_row(row: &mut [u8], constraint: u64, payload: &[u8])
-    requires { ⌜ length (now row) ≡ 8 + length (now payload) ⌝ }
-    ensures { λ _. ⌜ now (row .exit) ≡ bytes 8 constraint ++ now (payload .entry) ⌝ }
+// "the 4-byte seed in front", then "the constraint as a big-endian 64-bit number, .. then the payload."
+fn put_entry(entry: &mut [u8], seed: u32, constraint: u64, payload: &[u8])
+    requires { ⌜ length (now entry) ≡ headBytes + length (now payload) ⌝ }
+    ensures { λ _. ⌜ now (entry .exit) ≡ bytes seedBytes seed ++ (bytes 8 constraint ++ now (payload .entry)) ⌝ }
 {
-    octets::put(&mut row[..8], constraint);
-    octets::copy(&mut row[8..], payload);
+    rows::put_head(entry, seed, constraint);
+    octets::copy(&mut entry[rows::HEAD..], payload);
 }
 
-// The row of a good frame of l payload bytes, into its place.
+// The row of a good frame of l payload bytes, with its seed, into its place.
 fn lay_row(frame: &[u8], n: u8, l: u8, seed: u32, arrival: Arrival, list: &mut [u8]) -> Laid
     requires { ⌜ (shape n l ≡ true) × (length (payloadOf (now frame)) ≡ l) ⌝ }
     ensures answer { λ r. ⌜ r ≡ placing l (arrival .0) (now (list .entry)) ⌝ }
-    ensures list { λ r. ⌜ now (list .exit) ≡ listAfter r (listRowBytes l * arrival .0) (bytes 8 (constraint n seed) ++ payloadOf (now (frame .entry))) (now (list .entry)) ⌝ }
+    ensures list { λ r. ⌜ now (list .exit) ≡ listAfter r (listRowBytes l * arrival .0) (bytes seedBytes seed ++ (bytes 8 (constraint n seed) ++ payloadOf (now (frame .entry)))) (now (list .entry)) ⌝ }
 {
     let at = arrival.0;
     if LAST_ARRIVAL < at {
@@ -62,14 +62,19 @@ fn lay_row(frame: &[u8], n: u8, l: u8, seed: u32, arrival: Arrival, list: &mut [
     let Drawn::Constraint(constraint) = drawn else {
         return Laid::Shape;
     };
-    put_row(&mut list[start..end], constraint, frame::payload(frame));
+    put_entry(
+        &mut list[start..end],
+        seed,
+        constraint,
+        frame::payload(frame),
+    );
     Laid::Row
 }
 
 // Lays the row of a frame of the expected page into the list, at the arrival number.
 pub fn lay(frame: &[u8], page_number: u32, n: u8, l: u8, arrival: Arrival, list: &mut [u8]) -> Laid
     ensures answer { λ r. ⌜ r ≡ laid (now (frame .entry)) «page_number» n l (arrival .0) (now (list .entry)) ⌝ }
-    ensures list { λ r. ⌜ now (list .exit) ≡ listAfter r (listRowBytes l * arrival .0) (frameRow (now (frame .entry))) (now (list .entry)) ⌝ }
+    ensures list { λ r. ⌜ now (list .exit) ≡ listAfter r (listRowBytes l * arrival .0) (frameEntry (now (frame .entry))) (now (list .entry)) ⌝ }
 {
     if !rows::shaped(n, l) {
         return Laid::Shape;

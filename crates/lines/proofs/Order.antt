@@ -42,14 +42,14 @@ module _ (line : List ℕ) (sheet : Sheet) (list : List ℕ) where
           → takeLine line sheet list
           ≡ takenAs (result (laying.numberOf answer) (laying.placeOf answer))
           (record { expected = Only page; rows = rowsAfter (result (laying.numberOf answer) (laying.placeOf answer)) (sheet .rows) })
-          (laying.listAfter answer (listRowBytes (page .l) * sheet .rows) (laying.frameRow (pairs line)) list)
+          (laying.listAfter answer (listRowBytes (page .l) * sheet .rows) (laying.frameEntry (pairs line)) list)
       unfolding layOn
       laid-as page e answer a = on page e ∙ rw a
 
       -- "The first good frame sets the expected page number, n and L", and its row is laid.
       module _ (fresh : sheet .expected ≡ Nothing) (few : sheet .rows ≤ 511) (room : listRowBytes l * sheet .rows + listRowBytes l ≤ length list) where
         pub first-good : takeLine line sheet list
-            ≡ takenAs Row (record { expected = Only (record { number = p; n = n; l = l }); rows = sheet .rows + 1 }) (lay (listRowBytes l * sheet .rows) (laying.frameRow (pairs line)) list)
+            ≡ takenAs Row (record { expected = Only (record { number = p; n = n; l = l }); rows = sheet .rows + 1 }) (lay (listRowBytes l * sheet .rows) (laying.frameEntry (pairs line)) list)
         unfolding expecting laying.numberOf laying.placeOf laying.listAfter result rowsAfter
         first-good =
             laid-as (record { number = p; n = n; l = l }) (rw fresh) laid.Row
@@ -82,6 +82,6 @@ module _ (line : List ℕ) (sheet : Sheet) (list : List ℕ) where
 
           pub gives-row : sheet .rows ≤ 511 → listRowBytes (page .l) * sheet .rows + listRowBytes (page .l) ≤ length list
               → takeLine line sheet list
-              ≡ takenAs Row (record { expected = Only page; rows = sheet .rows + 1 }) (lay (listRowBytes (page .l) * sheet .rows) (laying.frameRow (pairs line)) list)
+              ≡ takenAs Row (record { expected = Only page; rows = sheet .rows + 1 }) (lay (listRowBytes (page .l) * sheet .rows) (laying.frameEntry (pairs line)) list)
           unfolding laying.numberOf laying.placeOf laying.listAfter result rowsAfter
           gives-row few room = laid-as page expected laid.Row (placed ∙ placing-row (page .l) (sheet .rows) list few room)

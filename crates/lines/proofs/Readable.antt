@@ -81,10 +81,10 @@ module _ (sheet : Sheet) (able : Readable sheet) (page : Page) (is : sheet .expe
   page-shaped : shape (page .n) (page .l) ≡ true
   page-shaped = rw is at (able .shaped)
 
-  -- the rows fit into a list of 512 rows of 40 bytes
-  pub rows-fit : sheet .rows * listRowBytes (page .l) ≤ 20480
+  -- the rows fit into a list of 512 rows of 44 bytes
+  pub rows-fit : sheet .rows * listRowBytes (page .l) ≤ 22528
   rows-fit =
-      let narrow : listRowBytes (page .l) ≤ 40 = omega (arith, shape-range (page .n) (page .l) page-shaped .l-high) in
+      let narrow : listRowBytes (page .l) ≤ 44 = omega (arith, shape-range (page .n) (page .l) page-shaped .l-high) in
       mul-le-mul (able .few) narrow
 
   pub page-fits : page .n * page .l ≤ 2048

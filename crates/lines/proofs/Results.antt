@@ -1,4 +1,4 @@
--- The results that lines have in a list of 20,480 bytes: a row, or 17, 11 to 15, 16 or 2. Laying's 1 and 3 never come up.
+-- The results that lines have in a list of 22,528 bytes: a row, or 17, 11 to 15, 16 or 2. Laying's 1 and 3 never come up.
 -- Assumes nothing.
 use mathlib.Core.Path.{_≡_, refl}
 use Prim.Native.Nat.{ℕ, _+_, _*_, _≤_}
@@ -41,15 +41,15 @@ refusal-listed frames.OutOfRange e = refl
 refusal-listed (frames.Trailing place) e = refl
 
 -- there is room for each of 512 rows
-one-more : (n l rows : ℕ) → shape n l ≡ true → rows ≤ 511 → listRowBytes l * rows + listRowBytes l ≤ 20480
+one-more : (n l rows : ℕ) → shape n l ≡ true → rows ≤ 511 → listRowBytes l * rows + listRowBytes l ≤ 22528
 one-more n l rows s h =
-    let narrow : listRowBytes l ≤ 40 = omega (arith, shape-range n l s .l-high) in
+    let narrow : listRowBytes l ≤ 44 = omega (arith, shape-range n l s .l-high) in
     omega (arith, mul-le-mul narrow h)
 
 abbrev told : Laid → Line
 told answer = result (laying.numberOf answer) (laying.placeOf answer)
 
-module _ (list : List ℕ) (room : 20480 ≤ length list) where
+module _ (list : List ℕ) (room : 22528 ≤ length list) where
   placing-listed : (n l rows : ℕ) → shape n l ≡ true → listed (told (laying.placing l rows list)) ≡ true
   unfolding laying.placing laying.numberOf laying.placeOf result listed
   placing-listed n l rows s = go (ltb 511 rows) refl

@@ -46,7 +46,7 @@ module _ (page : Page) (frame : List ℕ) (rows : ℕ) (list : List ℕ) where
 
   -- laying, its result and the rows after it
   pub lays : (answer : Laid) → answer ≡ answered → (line : Line) → line ≡ result (laying.numberOf answer) (laying.placeOf answer)
-      → (more : ℕ) → more ≡ rowsAfter line rows → (after : List ℕ) → after ≡ laying.listAfter answer (listRowBytes (page .l) * rows) (laying.frameRow frame) list
+      → (more : ℕ) → more ≡ rowsAfter line rows → (after : List ℕ) → after ≡ laying.listAfter answer (listRowBytes (page .l) * rows) (laying.frameEntry frame) list
       → takenAs line (record { expected = Only page; rows = more }) after ≡ layOn page frame rows list
   unfolding layOn
   lays answer a line e more m after l = rw (l, m, e, a)

@@ -50,7 +50,7 @@ layOn page frame rows list =
     let answer = laying.laid frame (page .number) (page .n) (page .l) rows list in
     let line = result (laying.numberOf answer) (laying.placeOf answer) in
     takenAs line (record { expected = Only page; rows = rowsAfter line rows })
-    (laying.listAfter answer (listRowBytes (page .l) * rows) (laying.frameRow frame) list)
+    (laying.listAfter answer (listRowBytes (page .l) * rows) (laying.frameEntry frame) list)
 
 -- ---- a line
 

@@ -6,13 +6,15 @@ use mathlib.Core.List.{List, map}
 use Prim.Native.Nat.{ℕ, _+_, _*_, _/_, _≤_, _<_}
 use native.Mathlib.Nat.{div-mul-le-self}
 use native.Mathlib.Omega.{arith}
-use lib.ListN.{length, take, drop, getD}
+use lib.Pow.{pow-pos}
+use lib.ListN.{length, take, drop, getD, length-drop, List·getD-map}
 use Rattle.space.specs.Lists.{Below}
 use Rattle.octets.specs.Octets.{number, numbers}
 use Rattle.octets.proofs.Runs.{below-parts, getD-numbers}
+use Rattle.octets.proofs.Digits.{number-back}
 use Rattle.octets.proofs.Views.{part-room, length-part}
-use Rattle.rows.specs.Rows.{rowBytes, listRowBytes, rowCount, entriesOf, rowsOf}
-use Rattle.rows.proofs.Lists.{rows-entries}
+use Rattle.rows.specs.Rows.{seedBytes, rowBytes, listRowBytes, rowCount, entriesOf, vector, rowsOf}
+use Rattle.rows.proofs.Entries.{vector-whole}
 use Rattle.lists.specs.Lists.{isEntry, entryAt, sizeOf, startOf, rowAt}
 use Rattle.lists.proofs.AtArrival.{is-entry, entry-shows}
 
@@ -24,7 +26,7 @@ module _ (l m : ℕ) (list : List ℕ) where
 
   pub row-below : Below 256 list → Below 256 (rowAt l m list)
   unfolding rowAt
-  row-below b = entry-below b
+  row-below b = below-parts 256 seedBytes (entryAt l m list) (entry-below b) .1
 
   module _ (most : m < 512) (h : m < rowCount l list) where
     pub entry-room : m * listRowBytes l + listRowBytes l ≤ length list
@@ -42,8 +44,10 @@ module _ (l m : ℕ) (list : List ℕ) where
 
     pub row-length : length (rowAt l m list) ≡ rowBytes l
     unfolding rowAt
-    row-length = entry-length
+    row-length = length-drop seedBytes (entryAt l m list) ∙ omega (arith, entry-length)
 
     pub row-number : Below 256 list → number (rowAt l m list) ≡ getD (rowsOf l list) m 0
-    unfolding rowAt
-    row-number b = entry-number ∙ ap (λ (xs : List ℕ). getD xs m 0) (sym (rows-entries l list b))
+    unfolding rowAt rowsOf vector
+    row-number b =
+        sym (number-back seedBytes (rowBytes l) (entryAt l m list) (entry-below b) entry-length) ∙ ap (vector l) entry-number
+        ∙ sym (List·getD-map (vector l) (entriesOf l list) m 0) ∙ ap (getD (map (vector l) (entriesOf l list)) m) (vector-whole l 0 (pow-pos _))

@@ -5,7 +5,7 @@ use mathlib.Core.List.{List}
 use lib.Dec.{leb, ltb}
 use lib.ListN.{length, take, drop}
 use Rattle.places.specs.Places.{mostRows}
-use Rattle.rows.specs.Rows.{listRowBytes}
+use Rattle.rows.specs.Rows.{seedBytes, listRowBytes}
 
 -- Whether a list has an entry at an arrival number: one of the first 512, and all of it.
 unfoldable pub isEntry : ℕ → ℕ → List ℕ → Bool
@@ -21,9 +21,9 @@ sizeOf l arrival list = cond (isEntry l arrival list) (listRowBytes l) 0
 unfoldable pub entryAt : ℕ → ℕ → List ℕ → List ℕ
 entryAt l arrival list = take (sizeOf l arrival list) (drop (startOf l arrival list) list)
 
--- "In a list a row has 8+L bytes": the row of an entry is all of it.
+-- The row of an entry stands behind its seed.
 unfoldable pub rowStart : ℕ → ℕ → List ℕ → ℕ
-rowStart l arrival list = startOf l arrival list
+rowStart l arrival list = cond (isEntry l arrival list) (arrival * listRowBytes l + seedBytes) 0
 
 unfoldable pub rowAt : ℕ → ℕ → List ℕ → List ℕ
-rowAt l arrival list = entryAt l arrival list
+rowAt l arrival list = drop seedBytes (entryAt l arrival list)

@@ -1,4 +1,4 @@
-// The rows of a list: how many there are, and each by its arrival number, as that part of the list itself.
+// The entries of a list: how many there are, and each by its arrival number, as that part of the list itself.
 ghost use mathlib.Core.Path.{_≡_};
 ghost use Prim.Native.Nat.{_+_, _/_};
 ghost use Rattle.rows.specs.Rows.{listRowBytes};
@@ -29,10 +29,14 @@ pub fn entry(list: &[u8], l: u8, arrival: Arrival) -> &[u8]
     &list[at..end]
 }
 
-// The row in that entry: today an entry has nothing else.
+// The row in that entry, behind its seed.
 pub fn row(list: &[u8], l: u8, arrival: Arrival) -> &[u8]
     ensures shows { λ r. ⌜ now r ≡ rowAt l (arrival .0) (now (list .entry)) ⌝ }
     ensures points { λ r. ⌜ r .ptr ≡ (list .entry .ptr .0, rowStart l (arrival .0) (now (list .entry)) + list .entry .ptr .1) ⌝ }
 {
-    entry(list, l, arrival)
+    let whole = entry(list, l, arrival);
+    if whole.len() < rows::SEED {
+        return whole;
+    }
+    &whole[rows::SEED..]
 }

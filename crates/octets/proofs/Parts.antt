@@ -29,12 +29,12 @@ module _ (at : ℕ) (done old now : List ℕ) (so-far : now ≡ over done old) (
   next-is : (k : ℕ) (new last : List ℕ) → last ≡ new → length new ≡ k → putMid at k now last ≡ over (done ++ new) old
   next-is k new last e h = rw e (back at k new now h ∙ ap (lay at new) so-far ∙ lay-over at done new old long)
 
-  rest-long : (k : ℕ) → at + k ≡ length old → length (take (length now - at) (drop at now)) ≡ k
+  pub rest-long : (k : ℕ) → at + k ≡ length old → length (take (length now - at) (drop at now)) ≡ k
   rest-long k h =
       let size : length now ≡ length old = ap length so-far ∙ length-over done old (omega arith) in
       part-long at (length now - at) now (omega arith) ∙ omega arith
 
-  rest-is : (new last : List ℕ) → last ≡ new → at + length new ≡ length old → putMid at (length now - at) now last ≡ done ++ new
+  pub rest-is : (new last : List ℕ) → last ≡ new → at + length new ≡ length old → putMid at (length now - at) now last ≡ done ++ new
   rest-is new last e h =
       let size : length now ≡ length old = ap length so-far ∙ length-over done old (omega arith) in
       next-is (length now - at) new last e (omega arith) ∙ over-all (done ++ new) old (length-append done new ∙ omega arith)

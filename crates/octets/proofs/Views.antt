@@ -29,3 +29,10 @@ numbers-take w zero k bs h = refl
 numbers-take w (suc n) k bs h =
     let l : w ≤ k = omega arith in
     rw (take-take w k bs l, drop-take k w bs) (ap (λ (t : List ℕ). number (take w bs) ∷ t) (numbers-take w n (k - w) (drop w bs) (omega arith)))
+
+-- the first ones
+pub take-numbers : (w k n : ℕ) (bs : List ℕ) → k ≤ n → take k (numbers w n bs) ≡ numbers w k bs
+unfolding numbers
+take-numbers w zero n bs h = refl
+take-numbers w (suc k) zero bs h = absurd (omega arith)
+take-numbers w (suc k) (suc n) bs h = ap (λ (t : List ℕ). number (take w bs) ∷ t) (take-numbers w k n (drop w bs) (omega arith))

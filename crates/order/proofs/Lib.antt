@@ -1,3 +1,4 @@
 pub mod Listed
+pub mod Seeds
 pub mod Writing
 pub mod Settled

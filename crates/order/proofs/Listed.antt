@@ -1,32 +1,33 @@
--- Which arrivals the list order takes: all of them, one after the other. And what fits `in_list_order`, with its outcome either way.
+-- How many arrivals the list order takes at most. And what fits `in_list_order`, with its outcome either way.
 -- Assumes nothing.
-use mathlib.Core.Path.{_≡_, refl, sym, ap, _∙_}
+use mathlib.Core.Path.{_≡_, refl, sym, _∙_}
 use mathlib.Core.Bool.{true, false}
 use mathlib.Core.List.{List}
-use Prim.Native.Nat.{ℕ, _≤_, _<_}
+use Prim.Native.Nat.{ℕ, _+_, _≤_, _<_}
+use native.Mathlib.Omega.{arith}
 use lib.Dec.{leb}
 use lib.ListN.{length}
 use borrow.Author.Tests.{le-leb, lt-leb, leb-true}
-use Rattle.space.proofs.Lists.{select-every, length-tabulate}
+use Rattle.space.proofs.Lists.{length-select, length-tabulate, marked-le}
 use Rattle.space.proofs.Both.{both}
-use Rattle.octets.specs.Octets.{flat, lay}
 use Rattle.rows.specs.Rows.{rowCount, entriesOf}
 use Rattle.rows.proofs.Lists.{length-entriesOf}
 use Rattle.reading.specs.Orders.{arrivals, counts, inListOrder}
-use Rattle.state.specs.Layout.{orderAt, stateBytes}
-use Rattle.order.specs.Listed.{orderable, listed, takenOf, listedState}
+use Rattle.reading.proofs.Counted.{length-counts}
+use Rattle.state.specs.Layout.{stateBytes}
+use Rattle.state.specs.Written.{orderedState, notedState}
+use Rattle.repeats.specs.Repeats.{repeated}
+use Rattle.order.specs.Listed.{orderable, listed, takenOf, written, listedState, seedAt, takenNext, takenState}
 
--- ---- every row counts
+-- ---- no more than there are entries
 
-pub listed-arrivals : (entries : List ℕ) → inListOrder entries ≡ arrivals (length entries)
-unfolding inListOrder counts arrivals
-listed-arrivals entries = select-every (λ entry. true) (λ u. refl) entries _ (sym (length-tabulate (length entries) (λ a. a)))
+pub length-order : (entries : List ℕ) → length (inListOrder entries) ≤ length entries
+unfolding inListOrder arrivals
+length-order entries =
+    omega (arith, length-select (counts entries) (arrivals (length entries)) (length-counts entries ∙ sym (length-tabulate (length entries) (λ a. a))), marked-le (counts entries), length-counts entries)
 
-pub listed-is : (l : ℕ) (list : List ℕ) → listed l list ≡ arrivals (rowCount l list)
-listed-is l list = listed-arrivals (entriesOf l list) ∙ ap arrivals (length-entriesOf l list)
-
-pub length-listed : (l : ℕ) (list : List ℕ) → length (listed l list) ≡ rowCount l list
-length-listed l list = ap length (listed-is l list) ∙ unfold arrivals in length-tabulate (rowCount l list) (λ a. a)
+pub length-listed : (l : ℕ) (list : List ℕ) → length (listed l list) ≤ rowCount l list
+length-listed l list = omega (arith, length-order (entriesOf l list), length-entriesOf l list)
 
 -- ---- what fits
 
@@ -58,10 +59,22 @@ module _ (m room : ℕ) where
 
 module _ (l : ℕ) (list state : List ℕ) where
   pub listed-so : orderable (rowCount l list) (length state) ≡ true
-      → (takenOf l list (length state) ≡ rowCount l list) × (listedState l list state ≡ lay orderAt (flat 2 (arrivals (rowCount l list))) state)
+      → (takenOf l list (length state) ≡ length (listed l list)) × (listedState l list state ≡ written l (entriesOf l list) state)
   unfolding takenOf listedState
-  listed-so e = rw e (length-listed l list, ap (λ (order : List ℕ). lay orderAt (flat 2 order) state) (listed-is l list))
+  listed-so e = rw e (refl, refl)
 
   pub listed-not : orderable (rowCount l list) (length state) ≡ false → (takenOf l list (length state) ≡ 0) × (listedState l list state ≡ state)
   unfolding takenOf listedState
   listed-not e = rw e (refl, refl)
+
+-- ---- one row more: a repeat is left out, and any other is taken
+
+module _ (l : ℕ) (list : List ℕ) (i taken : ℕ) (state : List ℕ) where
+  pub left-out : repeated l i list ≡ true → (taken ≡ takenNext l list i taken) × (notedState (seedAt l list i) state ≡ takenState l list i taken state)
+  unfolding takenNext takenState
+  left-out e = rw e (refl, refl)
+
+  pub taken-in : repeated l i list ≡ false
+      → (taken + 1 ≡ takenNext l list i taken) × (orderedState taken i (notedState (seedAt l list i) state) ≡ takenState l list i taken state)
+  unfolding takenNext takenState
+  taken-in e = rw e (refl, refl)

@@ -16,8 +16,8 @@ use reading::Answer;
 // Of a line at most 257 characters are kept: one too many says that it is too long.
 const MOST_KEPT: usize = 257;
 
-// 512 rows of at most 40 bytes.
-const LIST_BYTES: usize = 20480;
+// 512 rows of at most 44 bytes.
+const LIST_BYTES: usize = 22528;
 
 // How far the input is split: whether more may come, how many lines have ended, and how much is kept of the next.
 struct Scan {
@@ -151,7 +151,7 @@ fn read_rows(page: Page, rows: usize, list: &[u8])
 
 fn report(sheet: Sheet, list: &[u8])
     requires { ⌜ Readable sheet ⌝ }
-    requires { ⌜ 20480 ≤ length (now list) ⌝ }
+    requires { ⌜ 22528 ≤ length (now list) ⌝ }
 {
     let expected = sheet.expected;
     let Expected::Only(page) = expected else {

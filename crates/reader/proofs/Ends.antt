@@ -41,11 +41,11 @@ cleared scratch part room e =
     rw (e, size) (ap (λ (k : ℕ). replicate 32768 0 ++ drop k scratch) (sym (length-replicate {A = ℕ} 32768 0)))
 
 -- the state was lent before, and came back: what stands behind stays
-pub cleared-anew : (scratch state : List ℕ) → scratchBytes ≤ length scratch → length state ≡ length (take 30848 scratch) → over zeros (state ++ drop 30848 scratch) ≡ over zeros scratch
+pub cleared-anew : (scratch state : List ℕ) → scratchBytes ≤ length scratch → length state ≡ length (take 31872 scratch) → over zeros (state ++ drop 31872 scratch) ≡ over zeros scratch
 unfolding zeros scratchBytes over
 cleared-anew scratch state room e =
-    let size : length state ≡ 30848 = e ∙ length-take-le 30848 scratch (omega arith) in
-    ap (λ (t : List ℕ). replicate 32768 0 ++ t) (rw (length-replicate {A = ℕ} 32768 0) (ap (drop 32768) (over-back 30848 state scratch size) ∙ drop-over 32768 state scratch (omega arith)))
+    let size : length state ≡ 31872 = e ∙ length-take-le 31872 scratch (omega arith) in
+    ap (λ (t : List ℕ). replicate 32768 0 ++ t) (rw (length-replicate {A = ℕ} 32768 0) (ap (drop 32768) (over-back 31872 state scratch size) ∙ drop-over 32768 state scratch (omega arith)))
 
 -- a whole state fits the scratch
 pub has-state : (room : ℕ) → scratchBytes ≤ room → stateBytes ≤ room

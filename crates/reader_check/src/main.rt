@@ -1,4 +1,4 @@
-// Prints readings: K1 to K12 of document 01, and its edges. The plain program docs/src/bin/reads.rs prints the same.
+// Prints readings: K1 to K12 of document 01, rows that repeat others or almost do, and the edges. The plain program docs/src/bin/reads.rs prints the same.
 ghost use mathlib.Core.Path.{_≡_};
 ghost use Prim.Native.Nat.{_≤_};
 ghost use lib.ListN.{length};
@@ -63,26 +63,27 @@ fn read(n: u8, l: u8, list: &[u8], r: Rooms)
     );
 }
 
-// Lays five rows at most, each of a constraint and a payload of one byte.
-fn lay_pairs(pairs: &[u8], list: &mut [u8])
-    requires { ⌜ (length (now pairs) ≤ 10) × (length (now list) ≡ 45) ⌝ }
+// Lays five rows at most, each of a seed, a constraint and a payload, a byte for each.
+fn lay_triples(triples: &[u8], list: &mut [u8])
+    requires { ⌜ (length (now triples) ≤ 15) × (length (now list) ≡ 65) ⌝ }
 {
     let mut i: usize = 0;
-    while i < pairs.len() / 2 {
-        list[9 * i + 7] = pairs[2 * i];
-        list[9 * i + 8] = pairs[2 * i + 1];
+    while i < triples.len() / 3 {
+        list[13 * i + 3] = triples[3 * i];
+        list[13 * i + 11] = triples[3 * i + 1];
+        list[13 * i + 12] = triples[3 * i + 2];
         i += 1;
     }
 }
 
 // A worked case, with a byte and a mark more than it needs of each room.
-fn case(n: u8, pairs: &[u8])
-    requires { ⌜ length (now pairs) ≤ 10 ⌝ }
+fn case(n: u8, triples: &[u8])
+    requires { ⌜ length (now triples) ≤ 15 ⌝ }
 {
-    let mut list = [0u8; 45];
-    lay_pairs(pairs, &mut list);
-    let m = pairs.len() / 2;
-    let end = 9 * m;
+    let mut list = [0u8; 65];
+    lay_triples(triples, &mut list);
+    let m = triples.len() / 3;
+    let end = 13 * m;
     read(
         n,
         1,
@@ -93,80 +94,106 @@ fn case(n: u8, pairs: &[u8])
 
 const POWERS: [u8; 8] = [1, 2, 4, 8, 16, 32, 64, 128];
 
-// The i-th row of an edge: symbol i % 64 alone, with a payload that ends in i.
+// Row i of an edge: the seed i, and symbol i % 64 alone, with a payload that ends in i.
 fn lay_row(i: usize, row: &mut [u8])
-    requires { ⌜ 9 ≤ length (now row) ⌝ }
+    requires { ⌜ 13 ≤ length (now row) ⌝ }
 {
-    row[7 - i / 8 % 8] = POWERS[i % 8];
+    row[2] = (i / 256 % 256) as u8;
+    row[3] = (i % 256) as u8;
+    row[11 - i / 8 % 8] = POWERS[i % 8];
     let last = row.len() - 1;
     row[last] = (i % 256) as u8;
 }
 
-fn lay_rows(bytes: usize, list: &mut [u8])
-    requires { ⌜ 9 ≤ bytes ⌝ }
+// Rows 0, 1, 2 and so on, again from 0 after each turn.
+fn lay_rows(bytes: usize, turn: usize, list: &mut [u8])
+    requires { ⌜ (13 ≤ bytes) × (1 ≤ turn) ⌝ }
 {
     let mut i: usize = 0;
     let mut at: usize = 0;
     while bytes <= list.len() - at {
         let end = at + bytes;
-        lay_row(i, &mut list[at..end]);
+        lay_row(i % turn, &mut list[at..end]);
         at = end;
         i += 1;
     }
 }
 
-fn edge_in(list: &mut [u8], n: u8, l: u8, r: Rooms)
-    requires { ⌜ (1 ≤ l) × (r .page ≤ 2048) × (r .marks ≤ 513) × (r .roles ≤ 513) × (r .scratch ≤ 32769) ⌝ }
+fn edge_in(list: &mut [u8], n: u8, l: u8, turn: usize, r: Rooms)
+    requires { ⌜ (1 ≤ l) × (1 ≤ turn) × (r .page ≤ 2048) × (r .marks ≤ 513) × (r .roles ≤ 513) × (r .scratch ≤ 32769) ⌝ }
 {
-    lay_rows(rows::stride(l), list);
+    lay_rows(rows::stride(l), turn, list);
     read(n, l, list, r);
 }
 
 // An edge: a list of so many bytes.
-fn edge(n: u8, l: u8, size: usize, r: Rooms)
-    requires { ⌜ (1 ≤ l) × (size ≤ 4617) × (r .page ≤ 2048) × (r .marks ≤ 513) × (r .roles ≤ 513) × (r .scratch ≤ 32769) ⌝ }
+fn edge(n: u8, l: u8, turn: usize, size: usize, r: Rooms)
+    requires { ⌜ (1 ≤ l) × (1 ≤ turn) × (size ≤ 6669) × (r .page ≤ 2048) × (r .marks ≤ 513) × (r .roles ≤ 513) × (r .scratch ≤ 32769) ⌝ }
 {
-    let mut list = [0u8; 4617];
-    edge_in(&mut list[0..size], n, l, r);
+    let mut list = [0u8; 6669];
+    edge_in(&mut list[0..size], n, l, turn, r);
 }
 
+// K1 to K12, with the seeds 0, 1, 2 and so on.
 fn worked() {
     case(1, b"");
-    case(1, &[1, 7]);
-    case(1, &[1, 7, 1, 9]);
-    case(1, &[1, 7, 1, 9, 1, 9]);
-    case(1, &[0, 7]);
-    case(1, &[1, 7, 0, 0]);
-    case(2, &[3, 1, 1, 3, 3, 2, 2, 1, 1, 0]);
-    case(2, &[1, 3, 2, 1, 3, 1, 3, 2, 1, 0]);
-    case(2, &[3, 13, 1, 6, 3, 14, 2, 8, 1, 5]);
-    case(1, &[2, 7]);
-    case(2, &[1, 4, 1, 5]);
-    case(2, &[1, 4]);
+    case(1, &[0, 1, 7]);
+    case(1, &[0, 1, 7, 1, 1, 9]);
+    case(1, &[0, 1, 7, 1, 1, 9, 2, 1, 9]);
+    case(1, &[0, 0, 7]);
+    case(1, &[0, 1, 7, 1, 0, 0]);
+    case(2, &[0, 3, 1, 1, 1, 3, 2, 3, 2, 3, 2, 1, 4, 1, 0]);
+    case(2, &[0, 1, 3, 1, 2, 1, 2, 3, 1, 3, 3, 2, 4, 1, 0]);
+    case(2, &[0, 3, 13, 1, 1, 6, 2, 3, 14, 3, 2, 8, 4, 1, 5]);
+    case(1, &[0, 2, 7]);
+    case(2, &[0, 1, 4, 1, 1, 5]);
+    case(2, &[0, 1, 4]);
 }
+
+// K4 with equal seeds on its second and third rows; equal seeds, but other payloads; equal seeds and payloads, but other constraints; equal but for
+// the seeds; one row held, against two; repeats of rows that are not kept, with others between.
+fn repeats() {
+    case(1, &[0, 1, 7, 1, 1, 9, 1, 1, 9]);
+    case(1, &[0, 1, 7, 0, 1, 9, 1, 1, 9]);
+    case(2, &[0, 1, 4, 0, 2, 4, 0, 3, 4, 0, 1, 4, 1, 1, 4]);
+    case(1, &[0, 1, 7, 1, 1, 7, 2, 1, 7, 3, 1, 9, 4, 1, 9]);
+    case(1, &[0, 1, 7, 0, 1, 7, 0, 1, 7, 1, 1, 9, 2, 1, 9]);
+    case(1, &[0, 1, 7, 1, 1, 7, 2, 0, 0, 1, 1, 7, 2, 0, 0]);
+}
+
+// More rows than any list has: none repeats another.
+const NEVER: usize = 1024;
 
 // n 64, 65, 0 and a stray bit; L 33; 512 and 513 rows, and a byte less than a row.
 fn shapes() {
-    edge(64, 32, 2560, lent(2048, 64, 64, 32768));
-    edge(65, 32, 2560, lent(2048, 64, 64, 32768));
-    edge(0, 32, 2560, lent(2048, 64, 64, 32768));
-    edge(63, 32, 2560, lent(2048, 64, 64, 32768));
-    edge(64, 33, 2560, lent(2048, 64, 64, 32768));
-    edge(64, 1, 4608, lent(64, 512, 512, 32768));
-    edge(64, 1, 4617, lent(64, 513, 513, 32768));
-    edge(64, 32, 2559, lent(2048, 64, 64, 32768));
+    edge(64, 32, NEVER, 2816, lent(2048, 64, 64, 32768));
+    edge(65, 32, NEVER, 2816, lent(2048, 64, 64, 32768));
+    edge(0, 32, NEVER, 2816, lent(2048, 64, 64, 32768));
+    edge(63, 32, NEVER, 2816, lent(2048, 64, 64, 32768));
+    edge(64, 33, NEVER, 2816, lent(2048, 64, 64, 32768));
+    edge(64, 1, NEVER, 6656, lent(64, 512, 512, 32768));
+    edge(64, 1, NEVER, 6669, lent(64, 513, 513, 32768));
+    edge(64, 32, NEVER, 2815, lent(2048, 64, 64, 32768));
+}
+
+// 256 rows shown twice, and 17 shown thirty times.
+fn turns() {
+    edge(64, 1, 256, 6656, lent(64, 512, 512, 32768));
+    edge(17, 1, 17, 6630, lent(17, 510, 510, 32768));
 }
 
 // Each room short by one.
 fn short() {
-    edge(64, 32, 2560, lent(2047, 64, 64, 32768));
-    edge(64, 32, 2560, lent(2048, 63, 64, 32768));
-    edge(64, 32, 2560, lent(2048, 64, 63, 32768));
-    edge(64, 32, 2560, lent(2048, 64, 64, 32767));
+    edge(64, 32, NEVER, 2816, lent(2047, 64, 64, 32768));
+    edge(64, 32, NEVER, 2816, lent(2048, 63, 64, 32768));
+    edge(64, 32, NEVER, 2816, lent(2048, 64, 63, 32768));
+    edge(64, 32, NEVER, 2816, lent(2048, 64, 64, 32767));
 }
 
 fn main() {
     worked();
+    repeats();
     shapes();
+    turns();
     short();
 }

@@ -80,7 +80,7 @@ fewer-fit n l m k lent h e =
 pub first-row-differs : Differs firstRow k4
 first-row-differs = differs-by (λ s. first (s .lent .page)) firstRow k4 in-k4 (λ lent room e. seven-is-nine lent (right lent room) e)
   where
-    start : take 9 (listOf k4) ≡ listOf k2
+    start : take 13 (listOf k4) ≡ listOf k2
     start = unfold listOf flat bytes in refl
 
     right : (lent : Lent) → roomy 1 1 3 lent ≡ true → first (seen (firstRow 1 1 (listOf k4) lent) .lent .page) ≡ 7

@@ -14,8 +14,8 @@ use Rattle.space.specs.Space.{spans}
 use Rattle.space.proofs.Lists.{map-append, select-append, tabulate-ext, tabulate-snoc, length-tabulate, length-select}
 use Rattle.rows.specs.Rows.{vector}
 use Rattle.reading.specs.Reading.{kept, keptRows, rank}
-use Rattle.reading.specs.Orders.{taken}
-use Rattle.reading.specs.Marks.{among, valueOf, byArrival, keptArrivals, placesGiven}
+use Rattle.reading.specs.Orders.{among, taken}
+use Rattle.reading.specs.Marks.{valueOf, byArrival, keptArrivals, placesGiven}
 use Rattle.reading.proofs.Kept.{length-kept}
 use Rattle.reading.proofs.OneMore.{kept-snoc}
 use Rattle.reading.proofs.Ranks.{rank-other, rank-kept, rank-marked}

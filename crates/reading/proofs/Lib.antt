@@ -2,6 +2,7 @@ pub mod Kept
 pub mod OneMore
 pub mod Ranks
 pub mod KeptPlaces
+pub mod Among
 pub mod Counted
 pub mod Listed
 pub mod Spread

@@ -1,7 +1,6 @@
--- The table K1 to K12 under one theorem: every case, whatever the lent buffers hold, as long as they have room. By computing.
+-- The table, K1 to K12 and two of them with a row held, under one theorem: every case, whatever the lent buffers hold, as long as they have room. By computing.
 -- Assumes nothing.
 use mathlib.Core.Path.{_≡_, refl, _∙_}
-use Prim.Native.Nat.{_+_, _*_}
 use mathlib.Core.Bool.{Bool, true, _&&_}
 use mathlib.Core.List.{List, [], _∷_, map, List·Memᴰ, List·Memᴰ·not-nil, List·Memᴰ·cases-cons, head-eq-of-cons-eq, tail-eq-of-cons-eq}
 use mathlib.Core.Logic.{_⊎_, inl, inr}
@@ -10,15 +9,15 @@ use Rattle.space.specs.Lists.{select, marked, count, tabulate}
 use Rattle.space.specs.Space.{_⊕_, sumOf, sumBy, spans, setOf, independent}
 use Rattle.space.proofs.Both.{both}
 use Rattle.octets.specs.Octets.{number, bytes, numbers, flat, over}
-use Rattle.rows.specs.Rows.{shape, rowCount, entriesOf, vector, rowsOf, constraint, payload, agrees}
+use Rattle.rows.specs.Rows.{shape, rowCount, entriesOf, vector, entered, rowsOf, constraint, payload, agrees}
 use Rattle.rows.proofs.Lists.{rowCount-flat}
 use Rattle.reading.specs.Answer.{answerNumbers}
 use Rattle.reading.specs.Reading.{keptAfter, kept, keptRows, otherRows, rank, usesOf, uses, picks, picked, pickedRows, symbol, pageOf, agreement, few, tie, singular}
-use Rattle.reading.specs.Orders.{arrivals, counts, taken, inListOrder}
+use Rattle.reading.specs.Orders.{arrivals, among, countsAfter, counts, taken, inListOrder}
 use Rattle.reading.specs.Marks.{valueOf, byArrival, keptArrivals, usesMarks, rolesMarks}
 use Rattle.reading.specs.Verdict.{verdict}
 use Rattle.reading.specs.Outcome.{Lent, wholeRows, roomy, strayFrom, checks, ended, told, read, after, outcomeIn, outcome, wholeLength}
-use Rattle.reading.specs.Worked.{Case, cases, listOf, Seen, seen, expected}
+use Rattle.reading.specs.Worked.{Case, cases, entryFor, listOf, Seen, seen, expected}
 
 -- the list of a case has whole rows, few enough
 sound : Case → Bool
@@ -33,7 +32,7 @@ unfolding sound shape wholeLength listOf rowCount flat bytes
 all-sound = refl
 
 computed : (lent : Lent) → map (run lent) cases ≡ map (expected lent) cases
-unfolding run expected seen listOf after strayFrom read told ended verdict answerNumbers usesMarks rolesMarks keptArrivals byArrival valueOf taken inListOrder arrivals counts few tie singular agreement pageOf symbol pickedRows picked picks uses usesOf rank otherRows keptRows kept keptAfter rowsOf entriesOf vector rowCount constraint payload sumBy agrees number bytes numbers flat over select marked count tabulate sumOf spans setOf independent _⊕_
+unfolding run expected seen listOf entered after strayFrom read told ended verdict answerNumbers usesMarks rolesMarks keptArrivals byArrival valueOf taken inListOrder arrivals counts countsAfter among few tie singular agreement pageOf symbol pickedRows picked picks uses usesOf rank otherRows keptRows kept keptAfter rowsOf entriesOf vector rowCount constraint payload sumBy agrees number bytes numbers flat over select marked count tabulate sumOf spans setOf independent _⊕_
 computed lent = refl
 
 -- what holds of two tables holds of each case
@@ -56,4 +55,4 @@ worked c m lent room =
     fits = unfold sound in each sound (λ c. true) cases all-sound c m
 
     count : rowCount 1 (listOf c) ≡ length (c .rows)
-    count = unfold listOf in rowCount-flat 1 (map (λ r. r .0 * 256 + r .1) (c .rows)) ∙ length-map (c .rows) (λ r. r .0 * 256 + r .1)
+    count = unfold listOf in rowCount-flat 1 (map entryFor (c .rows)) ∙ length-map (c .rows) entryFor

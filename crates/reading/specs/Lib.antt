@@ -1,7 +1,6 @@
 pub mod Reading
 pub mod Orders
 pub mod Marks
-pub mod Listed
 pub mod Verdict
 pub mod Properties
 pub mod Raised

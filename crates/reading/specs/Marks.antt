@@ -1,17 +1,12 @@
 -- What a reading in some order marks, by arrival number. Document 01, "Answer numbers of a reading".
 use Prim.Native.Nat.{ℕ, suc}
-use mathlib.Core.Bool.{Bool, false, cond, _||_}
+use mathlib.Core.Bool.{Bool, cond}
 use mathlib.Core.List.{List, [], _∷_, map}
 use lib.Dec.{eqb}
 use lib.ListN.{length}
 use Rattle.space.specs.Lists.{select, tabulate}
 use Rattle.reading.specs.Reading.{kept, rank, uses, picked}
 use Rattle.reading.specs.Orders.{taken}
-
--- Whether a number is among others.
-unfoldable pub among : List ℕ → ℕ → Bool
-among [] a = false
-among (b ∷ bs) a = eqb a b || among bs a
 
 -- The value at the place that arrival a has among bs; d where it has none.
 unfoldable pub valueOf : ℕ → List ℕ → List ℕ → ℕ → ℕ

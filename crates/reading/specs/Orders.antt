@@ -1,9 +1,9 @@
 -- Which rows of a list count, and in which order they are taken. An order is a list of arrival numbers, and goes by the entries of the list that it
--- is for. Document 01, "How a list is read".
+-- is for. Document 01, "How a list is read", and document 02, wish 3.
 use Prim.Native.Nat.{ℕ}
 use mathlib.Core.Path.{_≡_}
-use mathlib.Core.Bool.{Bool, true, false, cond}
-use mathlib.Core.List.{List, map}
+use mathlib.Core.Bool.{Bool, false, cond, not, _||_}
+use mathlib.Core.List.{List, [], _∷_, _++_, map}
 use lib.Dec.{eqb}
 use lib.ListN.{length, getD}
 use Rattle.space.specs.Lists.{select, count, tabulate}
@@ -13,15 +13,25 @@ use Rattle.rows.specs.Rows.{vector, constraint}
 unfoldable pub arrivals : ℕ → List ℕ
 arrivals m = tabulate m (λ arrival. arrival)
 
--- "Every list row counts, repeats included."
+-- Whether a number is among others.
+unfoldable pub among : List ℕ → ℕ → Bool
+among [] a = false
+among (b ∷ bs) a = eqb a b || among bs a
+
+-- Document 02, wish 3: "A row equal to an earlier list row in seed, constraint and payload adds to no uses and no agreement." For each entry, whether it
+-- counts: no earlier one is equal to it.
+unfoldable pub countsAfter : List ℕ → List ℕ → List Bool
+countsAfter before [] = []
+countsAfter before (entry ∷ entries) = not (among before entry) ∷ countsAfter (before ++ (entry ∷ [])) entries
+
 unfoldable pub counts : List ℕ → List Bool
-counts entries = map (λ entry. true) entries
+counts entries = countsAfter [] entries
 
 -- The rows that an order takes.
 unfoldable pub taken : ℕ → List ℕ → List ℕ → List ℕ
 taken l entries order = map (λ arrival. vector l (getD entries arrival 0)) order
 
--- "Rows are taken in list order."
+-- "Rows are taken in list order": those that count.
 unfoldable pub inListOrder : List ℕ → List ℕ
 inListOrder entries = select (counts entries) (arrivals (length entries))
 

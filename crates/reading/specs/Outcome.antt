@@ -38,7 +38,7 @@ pub data Check : Type 0 where
   passes : Check
   refuses : Answer → Check
 
--- Not 2 list, "length no multiple of 8+L, or over 512 rows", of a list of so many bytes.
+-- Not 2 list, "length no multiple of 8+L, or over 512 rows", where document 02, wish 3, has 12+L; of a list of so many bytes.
 unfoldable pub wholeLength : ℕ → ℕ → Bool
 wholeLength l size = eqb (size % listRowBytes l) 0 && leb (size / listRowBytes l) mostRows
 

@@ -1,4 +1,5 @@
--- How the rows of a list are read. Document 01, "How a list is read"; n is the number of symbols and l the bytes of one.
+-- How rows are read. Document 01, "How a list is read"; n is the number of symbols and l the bytes of one. Which rows of a list are taken stands in
+-- Orders.
 use Prim.Native.Nat.{ℕ, _^_}
 use mathlib.Core.Bool.{Bool, true, false, cond, not}
 use mathlib.Core.List.{List, [], _∷_, _++_, map}
@@ -26,7 +27,7 @@ otherRows rows = select (map not (kept rows)) rows
 unfoldable pub rank : List ℕ → ℕ
 rank rows = length (keptRows rows)
 
--- "The uses of a kept row are the rows not kept whose set contains it. Every list row counts, repeats included."
+-- "The uses of a kept row are the rows not kept whose set contains it."
 unfoldable pub usesOf : List ℕ → List ℕ → List ℕ
 usesOf ks others = tabulate (length ks) (λ j. count (λ r. getD (setOf ks r) j false) others)
 
@@ -52,7 +53,7 @@ symbol l ps k = sumOf (map (payload l) ps) (setOf (map (constraint l) ps) (2 ^ k
 unfoldable pub pageOf : ℕ → ℕ → List ℕ → List ℕ
 pageOf n l ps = tabulate n (symbol l ps)
 
--- "Agreement is the number of list rows, kept or not, that agree with the page."
+-- "Agreement is the number of .. rows, kept or not, that agree with the page."
 unfoldable pub agreement : ℕ → List ℕ → List ℕ → ℕ
 agreement l page rows = count (agrees l page) rows
 

@@ -1,25 +1,31 @@
--- Document 01, "Readings worked by hand": K1 to K12, with every field filled in. "L is 1. A row is written (constraint, payload)."
-use Prim.Native.Nat.{ℕ, _+_, _*_}
+-- Document 01, "Readings worked by hand": K1 to K12, with every field filled in. "L is 1. A row is written (constraint, payload)." Document 02, wish 3:
+-- "K1 to K12 are restated with seeds 0, 1, 2 and so on .. K4 with equal seeds on its second and third rows becomes 6."
+use Prim.Native.Nat.{ℕ, suc, _+_, _*_}
 use mathlib.Core.List.{List, [], _∷_, map}
 use Rattle.octets.specs.Octets.{flat, over}
-use Rattle.rows.specs.Rows.{listRowBytes}
+use Rattle.rows.specs.Rows.{listRowBytes, entered}
 use Rattle.reading.specs.declared.Numbers.{Numbers}
 use Rattle.reading.specs.Answer.{numbered, answerNumbers}
 use Rattle.reading.specs.Outcome.{Lent, Outcome, zeros}
 
--- n, the rows, and what is given: number, rank, place and agreement; then what is written from the front of each lent buffer.
+-- n, the rows with their seeds, and what is given: number, rank, place and agreement; then what is written from the front of each lent buffer.
 pub record Case : Type 0 where
   pub n : ℕ
-  pub rows : List (ℕ × ℕ)
+  pub rows : List (ℕ × (ℕ × ℕ))
   pub numbers : Numbers
   pub page : List ℕ
   pub uses : List ℕ
   pub roles : List ℕ
   pub scratch : List ℕ
 
+-- Rows with seeds from s on.
+abbrev pub seeded : ℕ → List (ℕ × ℕ) → List (ℕ × (ℕ × ℕ))
+seeded s [] = []
+seeded s (row ∷ rows) = (s, row) ∷ seeded (suc s) rows
+
 abbrev case : ℕ → List (ℕ × ℕ) → Numbers → List ℕ → List ℕ → List ℕ → List ℕ → Case
 case n rows numbers page uses roles scratch =
-    record { n = n; rows = rows; numbers = numbers; page = page; uses = uses; roles = roles; scratch = scratch }
+    record { n = n; rows = seeded 0 rows; numbers = numbers; page = page; uses = uses; roles = roles; scratch = scratch }
 
 abbrev pub k1 : Case
 k1 = case 1 [] (numbered 5 0 0 0) [] [] [] zeros
@@ -63,12 +69,40 @@ k11 = case 2 ((1, 4) ∷ (1, 5) ∷ []) (numbered 7 2 0 0) [] (0 ∷ 0 ∷ []) (
 abbrev pub k12 : Case
 k12 = case 2 ((1, 4) ∷ []) (numbered 5 1 0 0) [] (0 ∷ []) (1 ∷ []) zeros
 
+-- K4 "with equal seeds on its second and third rows", and K2 with its row held: a repeat "adds to no uses and no agreement".
+abbrev pub k4held : Case
+k4held =
+    record {
+      n = 1;
+      rows = (0, (1, 7)) ∷ (1, (1, 9)) ∷ (1, (1, 9)) ∷ [];
+      numbers = numbered 6 2 0 0;
+      page = [];
+      uses = 0 ∷ 0 ∷ 65535 ∷ [];
+      roles = 1 ∷ 1 ∷ 0 ∷ [];
+      scratch = zeros;
+    }
+
+abbrev pub k2held : Case
+k2held =
+    record {
+      n = 1;
+      rows = (0, (1, 7)) ∷ (0, (1, 7)) ∷ [];
+      numbers = numbered 0 1 0 1;
+      page = 7 ∷ [];
+      uses = 0 ∷ 65535 ∷ [];
+      roles = 2 ∷ 0 ∷ [];
+      scratch = zeros;
+    }
+
 abbrev pub cases : List Case
-cases = k1 ∷ k2 ∷ k3 ∷ k4 ∷ k5 ∷ k6 ∷ k7 ∷ k8 ∷ k9 ∷ k10 ∷ k11 ∷ k12 ∷ []
+cases = k1 ∷ k2 ∷ k3 ∷ k4 ∷ k5 ∷ k6 ∷ k7 ∷ k8 ∷ k9 ∷ k10 ∷ k11 ∷ k12 ∷ k4held ∷ k2held ∷ []
 
 -- The list of a case, in bytes.
+abbrev pub entryFor : ℕ × (ℕ × ℕ) → ℕ
+entryFor row = entered 1 (row .0) (row .1 .0 * 256 + row .1 .1)
+
 unfoldable pub listOf : Case → List ℕ
-listOf c = flat (listRowBytes 1) (map (λ r. r .0 * 256 + r .1) (c .rows))
+listOf c = flat (listRowBytes 1) (map entryFor (c .rows))
 
 -- What is seen of an outcome, and what the table says is to be seen.
 pub record Seen : Type 0 where

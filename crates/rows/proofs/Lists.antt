@@ -1,36 +1,16 @@
 -- The entries of a list of bytes, and the rows in them: there and back.
 -- Assumes nothing.
-use mathlib.Core.Path.{_≡_, refl, ap, ap₂, _∙_}
+use mathlib.Core.Path.{_≡_, ap, _∙_}
 use Prim.Native.Nat.{ℕ, _+_, _*_, _^_, _<_}
-use native.Mathlib.Nat.{mul-div-cancel, mod-lt, mod-eq-of-lt}
+use native.Mathlib.Nat.{mul-div-cancel}
 use native.Mathlib.Omega.{arith}
-use mathlib.Core.List.{List, [], _∷_, map}
+use mathlib.Core.List.{List, map}
 use lib.ListN.{length, length-map}
-use lib.Pow.{pow-pos}
 use Rattle.space.specs.Lists.{Below}
 use Rattle.octets.specs.Octets.{flat}
 use Rattle.octets.proofs.Runs.{length-flat, numbers-flat, numbers-small, length-numbers}
 use Rattle.rows.specs.Rows.{rowBytes, listRowBytes, rowCount, entriesOf, vector, rowsOf}
-
--- ---- the row of an entry
-
-pub vector-lt : (l entry : ℕ) → vector l entry < 2 ^ (8 * rowBytes l)
-unfolding vector
-vector-lt l entry = mod-lt entry (pow-pos (8 * rowBytes l))
-
-pub vector-whole : (l entry : ℕ) → entry < 2 ^ (8 * rowBytes l) → vector l entry ≡ entry
-unfolding vector
-vector-whole l entry h = mod-eq-of-lt h
-
-pub vectors-below : (l : ℕ) (entries : List ℕ) → Below (2 ^ (8 * rowBytes l)) (map (vector l) entries)
-vectors-below l [] = tt
-vectors-below l (e ∷ entries) = (vector-lt l e, vectors-below l entries)
-
-pub vectors-whole : (l : ℕ) (entries : List ℕ) → Below (2 ^ (8 * rowBytes l)) entries → map (vector l) entries ≡ entries
-vectors-whole l [] b = refl
-vectors-whole l (e ∷ entries) b = ap₂ (λ x t. x ∷ t) (vector-whole l e (b .0)) (vectors-whole l entries (b .1))
-
--- ---- lists
+use Rattle.rows.proofs.Entries.{vectors-below}
 
 pub rowCount-flat : (l : ℕ) (entries : List ℕ) → rowCount l (flat (listRowBytes l) entries) ≡ length entries
 unfolding rowCount
@@ -42,10 +22,9 @@ pub entries-flat : (l : ℕ) (entries : List ℕ) → Below (2 ^ (8 * listRowByt
 unfolding entriesOf
 entries-flat l entries b = rw (rowCount-flat l entries) (numbers-flat (listRowBytes l) entries b)
 
--- entries that have nothing but a row
-pub rows-flat : (l : ℕ) (rows : List ℕ) → Below (2 ^ (8 * rowBytes l)) rows → rowsOf l (flat (listRowBytes l) rows) ≡ rows
+pub rows-flat : (l : ℕ) (entries : List ℕ) → Below (2 ^ (8 * listRowBytes l)) entries → rowsOf l (flat (listRowBytes l) entries) ≡ map (vector l) entries
 unfolding rowsOf
-rows-flat l rows b = ap (map (vector l)) (entries-flat l rows b) ∙ vectors-whole l rows b
+rows-flat l entries b = ap (map (vector l)) (entries-flat l entries b)
 
 pub length-entriesOf : (l : ℕ) (list : List ℕ) → length (entriesOf l list) ≡ rowCount l list
 unfolding entriesOf
@@ -62,8 +41,3 @@ entries-below l list b = numbers-small (listRowBytes l) (rowCount l list) list b
 pub rows-below : (l : ℕ) (list : List ℕ) → Below (2 ^ (8 * rowBytes l)) (rowsOf l list)
 unfolding rowsOf
 rows-below l list = vectors-below l (entriesOf l list)
-
--- and the rows are all that there is
-pub rows-entries : (l : ℕ) (list : List ℕ) → Below 256 list → rowsOf l list ≡ entriesOf l list
-unfolding rowsOf
-rows-entries l list b = vectors-whole l (entriesOf l list) (entries-below l list b)

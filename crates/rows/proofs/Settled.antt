@@ -11,6 +11,8 @@ use Rattle.rows.proofs.stride.Kinds as stride
 use Rattle.rows.proofs.stride.Reads as stride-contract
 use Rattle.rows.proofs.make.Kinds as make
 use Rattle.rows.proofs.make.Reads as make-contract
+use Rattle.rows.proofs.put_head.Kinds as put-head
+use Rattle.rows.proofs.put_head.Reads as put-head-contract
 use Rattle.rows.proofs.sum.Kinds as sum
 use Rattle.rows.proofs.sum.Reads as sum-contract
 
@@ -28,7 +30,10 @@ pub strays-settled : Settles strays.ps strays.r strays-contract.Post
 strays-settled κs args = unique (λ o is. answer-only is)
 
 pub make-settled : Settles make.ps make.r make-contract.Post
-make-settled κs args = unique (λ o is. ap₂ (λ answer room. (answer, (tt, (tt, (tt, (tt, (room, tt))))))) (is .0) (is .1))
+make-settled κs args = unique (λ o is. ap₂ (λ answer room. (answer, (tt, (tt, (tt, (tt, (tt, (room, tt)))))))) (is .0) (is .1))
 
 pub sum-settled : Settles sum.ps sum.r sum-contract.Post
 sum-settled κs args = unique (λ o is. ap (λ into. (tt, (into, (tt, (tt, tt))))) is)
+
+pub put-head-settled : Settles put-head.ps put-head.r put-head-contract.Post
+put-head-settled κs args = unique (λ o is. ap (λ room. (tt, (room, (tt, (tt, tt))))) is)

@@ -2,9 +2,10 @@
 -- Assumes nothing.
 use mathlib.Core.Path.{_≡_, refl, sym, ap, ap₂, _∙_}
 use Prim.Native.Nat.{ℕ, suc, _+_, _*_, _/_, _%_, _^_, _<_}
-use native.Mathlib.Nat.{mod-lt, zero-lt-suc, mod-eq-of-lt, lt-of-lt-of-le}
+use native.Mathlib.Nat.{mod-lt, zero-lt-suc, mod-eq-of-lt, div-eq-of-lt, lt-of-lt-of-le}
 use native.Mathlib.Omega.{arith}
 use mathlib.Core.List.{List, [], _∷_, map}
+use lib.Bits.{xor-shr}
 use lib.Pow.{pow-mono}
 use lib.ListN.{length, getD, length-map}
 use Rattle.space.specs.Space.{_⊕_, sumBy}
@@ -16,11 +17,12 @@ use Rattle.octets.specs.Octets.{bytes, flat, xorBytes}
 use Rattle.octets.proofs.Xors.{xorBytes-append}
 use Rattle.octets.proofs.Numbers.{length-bytes, bytes-⊕}
 use Rattle.octets.proofs.Runs.{length-flat}
-use Rattle.rows.specs.Rows.{rowBytes, listRowBytes, rowCount, entriesOf, vector, rowsOf, constraint, payload, named, agrees}
+use Rattle.rows.specs.Rows.{rowBytes, listRowBytes, rowCount, entriesOf, seed, vector, entered, rowsOf, constraint, payload, named, agrees}
 use Rattle.rows.specs.Shift.{shifted, shiftedEntry, shiftedList, plus}
 use Rattle.rows.proofs.Sums.{constraint-⊕, payload-⊕, vector-⊕, constraint-zero}
 use Rattle.rows.proofs.Pages.{named-constraint}
-use Rattle.rows.proofs.Lists.{vector-whole, rowCount-flat, entries-flat, length-entriesOf, entries-below}
+use Rattle.rows.proofs.Entries.{vector-whole, entered-parts, seed-entered, vector-entered}
+use Rattle.rows.proofs.Lists.{rowCount-flat, entries-flat, length-entriesOf, entries-below}
 
 -- ---- two pages added
 
@@ -88,12 +90,24 @@ module _ (l : ℕ) (page : List ℕ) (b : Below (2 ^ (8 * l)) page) where
 
   -- ---- to an entry of a list, and to each
 
+  small : (entry : ℕ) → named page (constraint l (vector l entry)) < 2 ^ (8 * rowBytes l)
+  small entry = lt-of-lt-of-le (sumBy-lt (8 * l) page b (constraint l (vector l entry))) (pow-mono (omega arith))
+
   pub shifted-entry : (entry : ℕ) → vector l (shiftedEntry l page entry) ≡ shifted l page (vector l entry)
   unfolding shiftedEntry shifted
   shifted-entry entry = vector-⊕ l entry (named page (constraint l (vector l entry))) ∙ ap (λ (x : ℕ). vector l entry ⊕ x) (vector-whole l _ (small entry))
-    where
-      small : (entry : ℕ) → named page (constraint l (vector l entry)) < 2 ^ (8 * rowBytes l)
-      small entry = lt-of-lt-of-le (sumBy-lt (8 * l) page b (constraint l (vector l entry))) (pow-mono (omega arith))
+
+  pub shifted-seed : (entry : ℕ) → seed l (shiftedEntry l page entry) ≡ seed l entry
+  unfolding shiftedEntry seed _⊕_
+  shifted-seed entry =
+      xor-shr entry (named page (constraint l (vector l entry))) (8 * rowBytes l)
+      ∙ ap (λ (x : ℕ). entry / 2 ^ (8 * rowBytes l) ⊕ x) (div-eq-of-lt (small entry)) ∙ ⊕-zero (entry / 2 ^ (8 * rowBytes l))
+
+  -- to a row with a seed in front
+  pub shifted-entered : (s row : ℕ) → row < 2 ^ (8 * rowBytes l) → shiftedEntry l page (entered l s row) ≡ entered l s (shifted l page row)
+  shifted-entered s row h =
+      sym (entered-parts l (shiftedEntry l page (entered l s row)))
+      ∙ ap₂ (entered l) (shifted-seed (entered l s row) ∙ seed-entered l s row h) (shifted-entry (entered l s row) ∙ ap (shifted l page) (vector-entered l s row h))
 
   pub shifted-entries : (entries : List ℕ) → map (vector l) (map (shiftedEntry l page) entries) ≡ map (shifted l page) (map (vector l) entries)
   shifted-entries entries =
@@ -124,14 +138,3 @@ module _ (l : ℕ) (page : List ℕ) (b : Below (2 ^ (8 * l)) page) where
     pub rows-shiftedList : Below 256 list → rowsOf l (shiftedList l page list) ≡ map (shifted l page) (rowsOf l list)
     unfolding rowsOf
     rows-shiftedList bytes = ap (map (vector l)) (entries-shiftedList bytes) ∙ shifted-entries (entriesOf l list)
-
-  -- ---- to rows laid flat
-
-  shifted-rows : (rows : List ℕ) → Below (2 ^ (8 * rowBytes l)) rows → map (shiftedEntry l page) rows ≡ map (shifted l page) rows
-  unfolding shiftedEntry shifted
-  shifted-rows [] h = refl
-  shifted-rows (r ∷ rows) h = ap₂ (λ x t. x ∷ t) (rw (vector-whole l r (h .0))) (shifted-rows rows (h .1))
-
-  pub shifted-flat : (rows : List ℕ) → Below (2 ^ (8 * rowBytes l)) rows → shiftedList l page (flat (listRowBytes l) rows) ≡ flat (listRowBytes l) (map (shifted l page) rows)
-  unfolding shiftedList
-  shifted-flat rows h = rw (entries-flat l rows h, shifted-rows rows h)

@@ -1,4 +1,4 @@
--- A row in bytes: the one that making writes is the page's own, and agrees with it.
+-- A row in bytes: the one that making writes behind its seed is the page's own, and agrees with it.
 -- Assumes nothing.
 use mathlib.Core.Path.{_≡_, sym, ap, ap₂, _∙_}
 use mathlib.Core.Bool.{true}
@@ -11,8 +11,9 @@ use Rattle.space.specs.Lists.{Below}
 use Rattle.octets.specs.Octets.{number, bytes}
 use Rattle.octets.proofs.Numbers.{length-bytes, number-bytes, bytes-mod}
 use Rattle.octets.proofs.Digits.{bytes-append}
-use Rattle.rows.specs.Rows.{symbols, rowBytes, constraint, payload, named, agrees, made}
-use Rattle.rows.specs.Make.{rowOf, cut, bytesAgree}
+use Rattle.rows.specs.Rows.{symbols, rowBytes, listRowBytes, entered, constraint, payload, named, agrees, made}
+use Rattle.rows.specs.Make.{rowOf, entryOf, cut, bytesAgree}
+use Rattle.rows.proofs.Entries.{bytes-entered}
 use Rattle.rows.proofs.Sums.{row-lt}
 use Rattle.rows.proofs.Pages.{symbols-small, cut-symbols, made-constraint, made-payload, made-agrees}
 
@@ -38,15 +39,21 @@ module _ (n l : ℕ) (page : List ℕ) (b : Below 256 page) (c : ℕ) where
       low = ap (λ (e : ℕ). row % 2 ^ (8 * e)) (omega arith) ∙ made-payload l (symbols n l page) (symbols-small n l page b) c
 
   module _ (h : c < 2 ^ 64) where
-    pub number-rowOf : number (rowOf n l c page) ≡ made l (symbols n l page) c
+    pub made-lt : made l (symbols n l page) c < 2 ^ (8 * rowBytes l)
     unfolding row
-    number-rowOf =
-        let wide : 64 + 8 * l ≡ 8 * rowBytes l = omega arith in
-        ap number rowOf-made ∙ number-bytes (rowBytes l) row (rw wide at (row-lt 64 l row (rw its-constraint h)))
+    made-lt = let wide : 64 + 8 * l ≡ 8 * rowBytes l = omega arith in rw wide at (row-lt 64 l row (rw its-constraint h))
+
+    pub number-rowOf : number (rowOf n l c page) ≡ made l (symbols n l page) c
+    number-rowOf = ap number rowOf-made ∙ number-bytes (rowBytes l) (made l (symbols n l page) c) made-lt
 
     -- and agrees with it
     pub rowOf-agrees : agrees l (symbols n l page) (number (rowOf n l c page)) ≡ true
     rowOf-agrees = rw number-rowOf (made-agrees l (symbols n l page) (symbols-small n l page b) c)
+
+    -- with a seed in front it is the entry that making writes
+    pub entryOf-entered : (seed : ℕ) → entryOf n l seed c page ≡ bytes (listRowBytes l) (entered l seed (made l (symbols n l page) c))
+    unfolding entryOf
+    entryOf-entered seed = ap (λ (t : List ℕ). bytes 4 seed ++ t) rowOf-made ∙ sym (bytes-entered l seed (made l (symbols n l page) c) made-lt)
 
 -- ---- agreement in bytes
 

@@ -7,7 +7,7 @@ use lib.ListN.{length}
 use Rattle.octets.specs.Octets.{number, bytes, over}
 use Rattle.rows.specs.declared.Made.{Made}
 use Rattle.rows.specs.declared.Made.the-variants.{Row, Shape, Stray, Room, Length}
-use Rattle.rows.specs.Rows.{shape, symbols, listRowBytes, named, agrees}
+use Rattle.rows.specs.Rows.{shape, symbols, seedBytes, headBytes, listRowBytes, named, agrees}
 
 -- "return a number (0 when done)":
 unfoldable pub numberOf : Made → ℕ
@@ -25,8 +25,8 @@ placeOf answer = 0
 unfoldable pub stray : ℕ → ℕ → Bool
 stray n c = leb (2 ^ n) c
 
--- "8, page length other than nL"; "Making a row from a constraint has the same order: 1; 8; 4 stray; 3, room under 8+L." The page and
--- the room count by their lengths.
+-- "8, page length other than nL"; "Making a row from a constraint has the same order: 1; 8; 4 stray; 3, room under 8+L", which document 02, wish 3,
+-- makes 12+L. The page and the room count by their lengths.
 unfoldable pub makeAnswer : ℕ → ℕ → ℕ → ℕ → ℕ → Made
 makeAnswer n l c page room =
     cond (not (shape n l)) Shape
@@ -39,9 +39,20 @@ makeAnswer n l c page room =
 unfoldable pub rowOf : ℕ → ℕ → ℕ → List ℕ → List ℕ
 rowOf n l c page = bytes 8 c ++ bytes l (named (symbols n l page) c)
 
--- "Success writes exactly the first 8+L bytes." "Refused, they write nothing."
-unfoldable pub makeRoom : ℕ → ℕ → ℕ → List ℕ → List ℕ → List ℕ
-makeRoom n l c page room = cond (eqb (numberOf (makeAnswer n l c (length page) (length room))) 0) (over (rowOf n l c page) room) room
+-- The bytes of an entry: "the 4-byte seed in front".
+unfoldable pub entryOf : ℕ → ℕ → ℕ → ℕ → List ℕ → List ℕ
+entryOf n l seed c page = bytes seedBytes seed ++ rowOf n l c page
+
+-- "Success writes exactly the first" 12+L bytes. "Refused, they write nothing."
+unfoldable pub makeRoom : ℕ → ℕ → ℕ → ℕ → List ℕ → List ℕ → List ℕ
+makeRoom n l seed c page room = cond (eqb (numberOf (makeAnswer n l c (length page) (length room))) 0) (over (entryOf n l seed c page) room) room
+
+-- What stands before the payload in an entry, seed and constraint; and a room with them over its first bytes, which stays where it has fewer.
+unfoldable pub headOf : ℕ → ℕ → List ℕ
+headOf seed c = bytes seedBytes seed ++ bytes 8 c
+
+unfoldable pub headed : ℕ → ℕ → List ℕ → List ℕ
+headed seed c room = cond (leb headBytes (length room)) (over (headOf seed c) room) room
 
 -- The page cut into as many symbols of l bytes as it has.
 abbrev pub cut : ℕ → List ℕ → List ℕ

@@ -20,9 +20,17 @@ symbols n l page = numbers l n page
 abbrev pub rowBytes : ℕ → ℕ
 rowBytes l = 8 + l
 
--- "In a list a row has 8+L bytes": what stands for a row in a list is its entry, and these are the bytes from one entry to the next.
+-- Document 02, wish 3: "The list row gets the 4-byte seed in front, so it has 12+L bytes". What stands for a row in a list is its entry: the seed, then
+-- the row. These are the bytes from one entry to the next.
+abbrev pub seedBytes : ℕ
+seedBytes = 4
+
 abbrev pub listRowBytes : ℕ → ℕ
-listRowBytes l = rowBytes l
+listRowBytes l = seedBytes + rowBytes l
+
+-- The bytes before the payload in an entry.
+abbrev pub headBytes : ℕ
+headBytes = 12
 
 unfoldable pub rowCount : ℕ → List ℕ → ℕ
 rowCount l list = length list / listRowBytes l
@@ -30,7 +38,10 @@ rowCount l list = length list / listRowBytes l
 unfoldable pub entriesOf : ℕ → List ℕ → List ℕ
 entriesOf l list = numbers (listRowBytes l) (rowCount l list) list
 
--- The row of an entry: its last bytes.
+-- The seed of an entry, and its row.
+unfoldable pub seed : ℕ → ℕ → ℕ
+seed l entry = entry / 2 ^ (8 * rowBytes l)
+
 unfoldable pub vector : ℕ → ℕ → ℕ
 vector l entry = entry % 2 ^ (8 * rowBytes l)
 
@@ -52,6 +63,9 @@ named page c = sumBy page c
 unfoldable pub agrees : ℕ → List ℕ → ℕ → Bool
 agrees l page row = eqb (payload l row) (named page (constraint l row))
 
--- The row that a page gives for a constraint.
+-- The row that a page gives for a constraint, and the entry that it is with a seed.
 unfoldable pub made : ℕ → List ℕ → ℕ → ℕ
 made l page c = c * 2 ^ (8 * l) + named page c
+
+unfoldable pub entered : ℕ → ℕ → ℕ → ℕ
+entered l seed row = seed * 2 ^ (8 * rowBytes l) + row

@@ -4,7 +4,7 @@ ghost use Prim.Native.Nat.{_/_, _^_, _<_};
 ghost use lib.ListN.{length};
 ghost use Rattle.octets.specs.Octets.{bytes, xorBytes};
 ghost use Rattle.rows.specs.Rows.{shape, listRowBytes, named};
-ghost use Rattle.rows.specs.Make.{makeAnswer, makeRoom, stray, cut};
+ghost use Rattle.rows.specs.Make.{makeAnswer, makeRoom, headed, stray, cut};
 
 // The answer of making; specs/Make.antt gives document 01's number and place for each case.
 pub enum Made {
@@ -14,6 +14,11 @@ pub enum Made {
     Room,
     Length,
 }
+
+// The bytes of a seed, and of seed and constraint, which stand before the payload in an entry of a list.
+pub const SEED: usize = 4;
+
+pub const HEAD: usize = 12;
 
 // Whether n and L are in range.
 pub fn shaped(n: u8, l: u8) -> bool
@@ -35,7 +40,7 @@ pub fn shaped(n: u8, l: u8) -> bool
 pub fn stride(l: u8) -> usize
     ensures { λ r. ⌜ r ≡ listRowBytes l ⌝ }
 {
-    8 + (l as usize)
+    HEAD + (l as usize)
 }
 
 // Whether a constraint names a symbol that a page of n symbols has not.
@@ -95,17 +100,28 @@ fn answer(n: u8, l: u8, constraint: u64, page: usize, room: usize) -> Made
     Made::Row
 }
 
-// Makes the row that page gives for constraint, at the start of room.
-pub fn make(n: u8, l: u8, constraint: u64, page: &[u8], room: &mut [u8]) -> Made
+// Writes seed and constraint over the first bytes of room; nothing where there are too few.
+pub fn put_head(room: &mut [u8], seed: u32, constraint: u64)
+    ensures { λ _. ⌜ now (room .exit) ≡ headed seed constraint (now (room .entry)) ⌝ }
+{
+    if room.len() < HEAD {
+        return;
+    }
+    octets::put(&mut room[..SEED], seed as u64);
+    octets::put(&mut room[SEED..HEAD], constraint);
+}
+
+// Makes the row that page gives for constraint, with its seed in front, at the start of room.
+pub fn make(n: u8, l: u8, seed: u32, constraint: u64, page: &[u8], room: &mut [u8]) -> Made
     ensures answer { λ r. ⌜ r ≡ makeAnswer n l constraint (length (now (page .entry))) (length (now (room .entry))) ⌝ }
-    ensures room { λ _. ⌜ now (room .exit) ≡ makeRoom n l constraint (now (page .entry)) (now (room .entry)) ⌝ }
+    ensures room { λ _. ⌜ now (room .exit) ≡ makeRoom n l seed constraint (now (page .entry)) (now (room .entry)) ⌝ }
 {
     let said = answer(n, l, constraint, page.len(), room.len());
     let Made::Row = said else {
         return said;
     };
-    let end = 8 + (l as usize);
-    octets::put(&mut room[..8], constraint);
-    sum(&mut room[8..end], page, constraint);
+    let end = stride(l);
+    put_head(room, seed, constraint);
+    sum(&mut room[HEAD..end], page, constraint);
     Made::Row
 }

@@ -1,5 +1,6 @@
 -- No row of a list vanishes without a word: each agrees with the first page or is in the second list. And where each row is of one of two
--- versions, of which the first reading gives one, the second gives the other whenever its rank reaches the number of symbols.
+-- versions, of which the first reading gives one, the second gives the other whenever its rank reaches the number of symbols; its agreement is the number of
+-- rows of the second list that count.
 -- Assumes nothing.
 use mathlib.Core.Path.{_≡_, refl, sym, ap, _∙_}
 use Prim.Native.Nat.{ℕ, _*_, _^_, _≤_}
@@ -8,7 +9,7 @@ use mathlib.Core.Bool.{Bool, true, false, not, _||_}
 use mathlib.Core.List.{List, [], _∷_, map, List·Memᴰ, List·Memᴰ·head, List·Memᴰ·tail, List·Memᴰ·not-nil, List·Memᴰ·cases-cons}
 use mathlib.Core.Logic.{_⊎_, inl, inr, ⊎-elim}
 use lib.ListN.{length}
-use Rattle.space.specs.Lists.{Below, All, select}
+use Rattle.space.specs.Lists.{Below, All, select, marked}
 use Rattle.octets.specs.Octets.{numbers, flat, over}
 use Rattle.octets.proofs.Runs.{length-flat, numbers-flat, take-over}
 use Rattle.octets.proofs.Views.{numbers-take}
@@ -17,7 +18,7 @@ use Rattle.rows.proofs.Lists.{entries-flat, entries-below}
 use Rattle.rows.proofs.Pages.{length-symbols, symbols-below, flat-symbols}
 use Rattle.reading.specs.declared.Answer.the-variants as answer
 use Rattle.reading.specs.Reading.{rank}
-use Rattle.reading.specs.Orders.{inListOrder}
+use Rattle.reading.specs.Orders.{counts, inListOrder}
 use Rattle.reading.specs.Marks.{telling}
 use Rattle.reading.specs.Outcome as outcome
 use Rattle.reading.specs.Outcome.{Lent, ended, read, gave}
@@ -25,7 +26,6 @@ use Rattle.reading.proofs.Checks.{passed, inside}
 use Rattle.reading.proofs.Page.{length-pageOf, pageOf-below}
 use Rattle.demands.proofs.Any.{listed-takes}
 use Rattle.demands.proofs.Demand2.{agreed-read}
-use Rattle.demands.proofs.Plain.{all-counted}
 use Rattle.reading.proofs.Given.{page-given}
 use Rattle.apart.specs.Apart.{apart}
 use Rattle.both.specs.Both as spec
@@ -111,7 +111,7 @@ module _ (n l : ℕ) (list : List ℕ) (lent : Lent) (s : Second) (b : Below 256
       → OfEither l (pageGiven n l (spec.both n l list lent s)) (symbols n l other) (rowsOf l list) → n ≤ rank (secondRows l (spec.both n l list lent s))
       → secondOf (spec.both n l list lent s)
       ≡ ended n l (secondEntries l (spec.both n l list lent s)) (inListOrder (secondEntries l (spec.both n l list lent s))) (lentToo (lent .scratch) s)
-      (answer.Page n (length (secondEntries l (spec.both n l list lent s)))) telling other
+      (answer.Page n (marked (counts (secondEntries l (spec.both n l list lent s))))) telling other
   unfolding rowsOf
   other-version other size bytes either enough =
       second-read n l list lent s page
@@ -119,7 +119,7 @@ module _ (n l : ℕ) (list : List ℕ) (lent : Lent) (s : Second) (b : Below 256
       ∙ agreed-read n l (symbols n l other) (length-symbols n l other) (symbols-below n l other size bytes) second (inListOrder second) (listed-takes second)
       (rw left (apart-inside l page₁ entries (2 ^ n) within))
       (rw second-rows (apart-other l (pageGiven n l (spec.both n l list lent s)) (symbols n l other) entries either)) enough (lentToo (lent .scratch) s)
-      ∙ rw (flat-symbols n l other size bytes, all-counted second)
+      ∙ rw (flat-symbols n l other size bytes)
     where
       second : List ℕ
       second = secondEntries l (spec.both n l list lent s)

@@ -1,14 +1,16 @@
--- What fits `clear`, `put_arrival`, `keep` and `count`, and the state afterwards either way: by the tests that the code makes, in its order.
+-- What fits `clear`, `put_arrival`, `forget`, `note`, `keep` and `count`, and the state afterwards either way: by the tests that the code makes, in its order.
 -- Assumes nothing.
-use mathlib.Core.Path.{_≡_}
+use mathlib.Core.Path.{_≡_, refl}
+use mathlib.Core.Bool.{true}
 use mathlib.Core.List.{List}
 use Prim.Native.Nat.{ℕ, _+_, _*_, _≤_, _<_}
 use lib.ListN.{length, replicate}
 use borrow.Author.Tests.{le-leb, lt-leb, lt-ltb, le-ltb, eq-eqb, ne-eqb}
 use Rattle.octets.specs.Octets.{number, bytes, over, lay}
+use Rattle.filter.specs.Filter.{filterBytes, noted, note}
 use Rattle.tally.specs.Tally.{mostKept, tailBytes}
-use Rattle.state.specs.Layout.{vectorBytes, orderAt, stateBytes}
-use Rattle.state.specs.Written.{emptied, orders, orderedState, KeepRoom, keeps, rowKept, keptState, CountRoom, counts, rowCounted, countedState}
+use Rattle.state.specs.Layout.{vectorBytes, orderAt, filterAt, stateBytes, filterIn}
+use Rattle.state.specs.Written.{emptied, orders, orderedState, forgotten, notedIn, notedState, KeepRoom, keeps, rowKept, keptState, CountRoom, counts, rowCounted, countedState}
 
 -- ---- made empty
 
@@ -39,6 +41,26 @@ module _ (i m : ℕ) (state : List ℕ) where
   pub ordered-is : i < 512 → m < 512 → stateBytes ≤ length state → orderedState i m state ≡ lay (orderAt + 2 * i) (bytes 2 m) state
   unfolding orderedState orders
   ordered-is a b h = rw (lt-ltb i 512 a, lt-ltb m 512 b, le-leb stateBytes (length state) h)
+
+-- ---- the filter
+
+module _ (state : List ℕ) where
+  pub not-forgotten : length state < stateBytes → state ≡ forgotten state
+  unfolding forgotten
+  not-forgotten h = rw (lt-leb stateBytes (length state) h)
+
+  pub forgotten-is : stateBytes ≤ length state → forgotten state ≡ lay filterAt (replicate filterBytes 0) state
+  unfolding forgotten
+  forgotten-is h = rw (le-leb stateBytes (length state) h)
+
+module _ (seed : ℕ) (state : List ℕ) where
+  pub not-noted : length state < stateBytes → (true ≡ notedIn seed state) × (state ≡ notedState seed state)
+  unfolding notedIn notedState
+  not-noted h = rw (lt-leb stateBytes (length state) h) (refl, refl)
+
+  pub noted-is : stateBytes ≤ length state → (notedIn seed state ≡ noted seed (filterIn state)) × (notedState seed state ≡ lay filterAt (note seed (filterIn state)) state)
+  unfolding notedIn notedState
+  noted-is h = rw (le-leb stateBytes (length state) h) (refl, refl)
 
 -- ---- a row kept
 

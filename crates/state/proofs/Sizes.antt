@@ -4,14 +4,16 @@ use mathlib.Core.Path.{_≡_, refl}
 use Prim.Native.Nat.{ℕ, _+_, _*_, _≤_, _<_}
 use native.Mathlib.Nat.{mul-le-mul-right, suc-mul}
 use native.Mathlib.Omega.{arith}
+use Rattle.filter.specs.Filter.{filterBytes}
 use Rattle.slotting.specs.Slotting.{headIn}
 use Rattle.tally.specs.Tally.{mostKept, tailBytes}
-use Rattle.state.specs.Layout.{vectorBytes, usesAt, placesAt, headsAt, orderAt, stateBytes}
+use Rattle.state.specs.Layout.{vectorBytes, usesAt, placesAt, headsAt, orderAt, filterAt, stateBytes}
 use Rattle.state.specs.Written.{headAt}
 
-pub sizes : (mostKept ≡ 320) × (tailBytes ≡ 40) × (vectorBytes ≡ 80) × (usesAt ≡ 25600) × (placesAt ≡ 26240) × (headsAt ≡ 27264) × (orderAt ≡ 29824) × (stateBytes ≡ 30848)
-unfolding mostKept tailBytes vectorBytes usesAt placesAt headsAt orderAt stateBytes
-sizes = (refl, refl, refl, refl, refl, refl, refl, refl)
+pub sizes : (mostKept ≡ 320) × (tailBytes ≡ 40) × (vectorBytes ≡ 80) × (usesAt ≡ 25600) × (placesAt ≡ 26240) × (headsAt ≡ 27264) × (orderAt ≡ 29824) × (filterAt ≡ 30848)
+    × (stateBytes ≡ 31872) × (filterBytes ≡ 1024)
+unfolding mostKept tailBytes vectorBytes usesAt placesAt headsAt orderAt filterAt stateBytes filterBytes
+sizes = (refl, refl, refl, refl, refl, refl, refl, refl, refl, refl)
 
 -- the slots of rows of at most 40 bytes end where the uses begin
 pub slots-end : (key : ℕ) → key ≤ 40 → 8 * key * vectorBytes ≤ usesAt

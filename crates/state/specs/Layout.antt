@@ -1,6 +1,6 @@
 -- Where everything lies in the state of an elimination. From byte 0 on stand the slots, each a row and its tail in 80 bytes; then the uses of each
 -- kept place, two bytes each; then for each arrival the kept place that it was given, two bytes each; then the heads, which repeat eight bytes of
--- each slot and tell nothing that the slots don't; then the order in which rows are taken, an arrival in two bytes each.
+-- each slot and tell nothing that the slots don't; then the order in which rows are taken, an arrival in two bytes each; then a filter of seeds.
 use Prim.Native.Nat.{ℕ, _*_}
 use mathlib.Core.Bool.{Bool, cond, _&&_}
 use mathlib.Core.List.{List}
@@ -9,11 +9,12 @@ use lib.ListN.{length, take, drop}
 use Rattle.octets.specs.Octets.{numbers}
 use Rattle.doubles.specs.Doubles.{pairAt}
 use Rattle.places.specs.Places.{mostRows}
+use Rattle.filter.specs.Filter.{filterBytes}
 use Rattle.tally.specs.Tally.{mostKept}
 use Rattle.slots.specs.Reducing.{slotsOf}
 unfoldable pub use Rattle.slotting.specs.Slotting.{vectorBytes}
 
--- Where the uses, the kept places, the heads and the order begin, and the state ends.
+-- Where the uses, the kept places, the heads, the order and the filter begin, and the state ends.
 unfoldable pub usesAt : ℕ
 usesAt = 25600
 
@@ -26,8 +27,11 @@ headsAt = 27264
 unfoldable pub orderAt : ℕ
 orderAt = 29824
 
+unfoldable pub filterAt : ℕ
+filterAt = 30848
+
 unfoldable pub stateBytes : ℕ
-stateBytes = 30848
+stateBytes = 31872
 
 -- ---- what a state tells
 
@@ -43,6 +47,10 @@ placesIn m state = numbers 2 m (drop placesAt state)
 
 unfoldable pub orderIn : ℕ → List ℕ → List ℕ
 orderIn taken state = numbers 2 taken (drop orderAt state)
+
+-- Its filter of seeds.
+unfoldable pub filterIn : List ℕ → List ℕ
+filterIn state = take filterBytes (drop filterAt state)
 
 -- ---- parts of it
 

@@ -1,19 +1,20 @@
--- What is written in a state: `clear`, `put_arrival`, `keep` and `count` of the code.
+-- What is written in a state: `clear`, `put_arrival`, `forget`, `note`, `keep` and `count` of the code.
 use Prim.Native.Nat.{ℕ, _+_, _*_, _^_, _≤_, _<_}
 use mathlib.Core.Path.{_≡_}
-use mathlib.Core.Bool.{Bool, cond, _&&_}
+use mathlib.Core.Bool.{Bool, true, cond, _&&_}
 use mathlib.Core.List.{List}
 use lib.Dec.{eqb, leb, ltb}
 use lib.ListN.{length, replicate}
 use Rattle.space.specs.Space.{_⊕_}
 use Rattle.octets.specs.Octets.{number, bytes, flat, over, lay}
 use Rattle.places.specs.Places.{mostRows}
+use Rattle.filter.specs.Filter.{filterBytes, noted, note}
 use Rattle.reading.specs.Raised.{raised}
 use Rattle.basis.specs.Algorithm2.{digits}
 use Rattle.slotting.specs.Slotting.{headIn}
 unfoldable pub use Rattle.slotting.specs.Slotting.{headOf}
 use Rattle.tally.specs.Tally.{mostKept, tailBytes}
-use Rattle.state.specs.Layout.{vectorBytes, usesAt, placesAt, headsAt, orderAt, stateBytes, usesIn}
+use Rattle.state.specs.Layout.{vectorBytes, usesAt, placesAt, headsAt, orderAt, filterAt, stateBytes, usesIn, filterIn}
 
 -- A state with no rows; the order and all bytes behind it stay.
 unfoldable pub emptied : List ℕ → List ℕ
@@ -25,6 +26,19 @@ orders i m room = ltb i mostRows && (ltb m mostRows && leb stateBytes room)
 
 unfoldable pub orderedState : ℕ → ℕ → List ℕ → List ℕ
 orderedState i m state = cond (orders i m (length state)) (lay (orderAt + 2 * i) (bytes 2 m) state) state
+
+-- ---- the filter of seeds
+
+-- A state in which no seed is noted.
+unfoldable pub forgotten : List ℕ → List ℕ
+forgotten state = cond (leb stateBytes (length state)) (lay filterAt (replicate filterBytes 0) state) state
+
+-- Whether a seed may have been noted in a state, and the state with it noted.
+unfoldable pub notedIn : ℕ → List ℕ → Bool
+notedIn seed state = cond (leb stateBytes (length state)) (noted seed (filterIn state)) true
+
+unfoldable pub notedState : ℕ → List ℕ → List ℕ
+notedState seed state = cond (leb stateBytes (length state)) (lay filterAt (note seed (filterIn state)) state) state
 
 -- ---- a row that is kept
 

@@ -1,4 +1,5 @@
-// The state of an elimination in one buffer: the one crate that knows where the slots, the uses, the kept places, the heads and the order lie.
+// The state of an elimination in one buffer: the one crate that knows where the slots, the uses, the kept places, the heads, the order and the
+// filter of seeds lie.
 ghost use mathlib.Core.Path.{_≡_};
 ghost use Prim.Native.Nat.{_+_, _*_, _^_, _≤_, _<_};
 ghost use lib.ListN.{length};
@@ -9,12 +10,12 @@ ghost use Rattle.tally.specs.Tally.{mostKept};
 ghost use Rattle.slots.specs.Reducing.{reduceAnswer, reduceWork};
 ghost use Rattle.slotting.specs.Slotting.{headOf};
 ghost use Rattle.state.specs.Layout.{vectorBytes, usesAt, placesAt, orderAt, stateBytes, partAt, part, usesPart, placesPart, orderPart};
-ghost use Rattle.state.specs.Written.{emptied, orderedState, headAt, placedState, KeepRoom, rowKept, keptState, CountRoom, rowCounted, countedState};
+ghost use Rattle.state.specs.Written.{emptied, orderedState, forgotten, notedIn, notedState, headAt, placedState, KeepRoom, rowKept, keptState, CountRoom, rowCounted, countedState};
 use places::Arrival;
 use places::KeptPlace;
 use slots::Reduced;
 
-// From 0 on the slots; where the uses, the kept places, the heads and the order begin; where the state ends.
+// From 0 on the slots; where the uses, the kept places, the heads, the order and the filter begin; where the state ends.
 const USES: usize = 25600;
 
 const PLACES: usize = 26240;
@@ -23,7 +24,9 @@ const HEADS: usize = 27264;
 
 const ORDER: usize = 29824;
 
-pub const BYTES: usize = 30848;
+const FILTER: usize = 30848;
+
+pub const BYTES: usize = 31872;
 
 // ---- parts handed back
 
@@ -83,12 +86,35 @@ pub fn put_arrival(state: &mut [u8], i: usize, arrival: Arrival)
     if state.len() < BYTES {
         return;
     }
-    doubles::put_pair(&mut state[ORDER..BYTES], i, arrival.0 as u16);
+    doubles::put_pair(&mut state[ORDER..FILTER], i, arrival.0 as u16);
+}
+
+// ---- the filter of seeds
+
+// Makes the filter empty: no seed is noted.
+pub fn forget(state: &mut [u8])
+    ensures { λ _. ⌜ now (state .exit) ≡ forgotten (now (state .entry)) ⌝ }
+{
+    if state.len() < BYTES {
+        return;
+    }
+    octets::clear(&mut state[FILTER..BYTES]);
+}
+
+// Notes a seed, and tells whether it may have been noted before; it may where the state is too short, and nothing is written.
+pub fn note(state: &mut [u8], seed: u32) -> bool
+    ensures answer { λ r. ⌜ r ≡ notedIn seed (now (state .entry)) ⌝ }
+    ensures state { λ r. ⌜ now (state .exit) ≡ notedState seed (now (state .entry)) ⌝ }
+{
+    if state.len() < BYTES {
+        return true;
+    }
+    filter::note(&mut state[FILTER..BYTES], seed)
 }
 
 // ---- the slots
 
-// Makes the state empty; the order stays.
+// Makes the state empty; the order and the filter stay.
 pub fn clear(state: &mut [u8])
     ensures { λ _. ⌜ now (state .exit) ≡ emptied (now (state .entry)) ⌝ }
 {

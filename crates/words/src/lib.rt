@@ -1,8 +1,8 @@
-// Eight bytes as one number of 64 bits: what takes bytes one by one takes them by eights here.
+// Eight bytes as one number of 64 bits, and four as one of 32: what takes bytes one by one takes them by eights here.
 ghost use mathlib.Core.Path.{_≡_};
 ghost use lib.ListN.{length};
 ghost use Rattle.octets.specs.Octets.{number};
-ghost use Rattle.words.specs.Words.{wordAt, littleOf, littleAt, littleBytes};
+ghost use Rattle.words.specs.Words.{wordAt, fourOf, littleOf, littleAt, littleBytes};
 
 // Eight bytes, the first highest: one load, and its bytes turned about.
 fn eight(from: &[u8]) -> u64
@@ -48,6 +48,16 @@ pub fn word(from: &[u8], i: usize) -> u64
         return eight(&from[i..e]);
     }
     octets::get(&from[i..]) << (8 * (8 - left))
+}
+
+// The number of the first four bytes; 0 where there are fewer.
+pub fn four(from: &[u8]) -> u32
+    ensures { λ r. ⌜ r ≡ fourOf (now (from .entry)) ⌝ }
+{
+    if from.len() < 4 {
+        return 0;
+    }
+    ((from[0] as u32) << 24) | ((from[1] as u32) << 16) | ((from[2] as u32) << 8) | (from[3] as u32)
 }
 
 // The number of the eight bytes from an index on, the first lowest; 0 where there are fewer.

@@ -1,6 +1,7 @@
 //! Holds the program that prints layings of base frames, both done and refused.
 
 use plain::frame::lay;
+use plain::list::row_length;
 use plain::table::{base_frames, hex, Base};
 
 fn main() {
@@ -9,10 +10,11 @@ fn main() {
         n,
         l,
         frame,
+        ..
     } in base_frames()
     {
-        let row_length = 8 + usize::from(l);
-        let length = 3 * row_length + 5;
+        let row = row_length(l);
+        let length = 3 * row + 5;
         for arrival in [0, 1, 2, 3, 511, 512] {
             print_laying(&frame, page_number, n, l, arrival, length);
         }
@@ -28,8 +30,8 @@ fn main() {
         print_laying(&frame[..frame.len() - 1], page_number, n, l, 1, length);
         print_laying(&[&frame[..], &[0]].concat(), page_number, n, l, 1, length);
 
-        print_laying(&frame, page_number, n, l, 1, 2 * row_length - 1);
-        print_laying(&frame, page_number, n, l, 1, 2 * row_length);
+        print_laying(&frame, page_number, n, l, 1, 2 * row - 1);
+        print_laying(&frame, page_number, n, l, 1, 2 * row);
     }
 }
 

@@ -3,7 +3,7 @@
 use std::io::{self, Read, Write};
 
 use plain::frame::{lay, read};
-use plain::list::{MOST_ROWS, SCRATCH};
+use plain::list::{row_length, MOST_ROWS, SCRATCH};
 use plain::number::DONE;
 use plain::page;
 use plain::reading::read_list;
@@ -40,7 +40,7 @@ fn main() -> io::Result<()> {
     let mut sheet = Sheet {
         expected: None,
         rows: 0,
-        list: vec![0; MOST_ROWS * 40],
+        list: vec![0; MOST_ROWS * 44],
     };
     for (i, line) in lines.into_iter().enumerate() {
         match take(line, &mut sheet) {
@@ -91,7 +91,7 @@ fn report(sheet: &Sheet, out: &mut impl Write) -> io::Result<()> {
         return writeln!(out, "no page");
     };
     let rows = sheet.rows;
-    let list = &sheet.list[..rows * (8 + usize::from(l))];
+    let list = &sheet.list[..rows * row_length(l)];
     let mut page = vec![0; page::length(n, l)];
     let answer = read_list(
         n,

@@ -1,7 +1,9 @@
-//! Holds the program that prints readings: the worked cases K1 to K12, and the edges.
+//! Holds the program that prints readings: K1 to K12, rows that repeat others or almost do, and the edges.
 
+use plain::list::row_length;
 use plain::reading::read_list;
 
+/// n, and the constraint and payload of each row; its seed is its arrival number.
 const WORKED: [(u8, &[(u8, u8)]); 12] = [
     (1, &[]),
     (1, &[(1, 7)]),
@@ -17,6 +19,27 @@ const WORKED: [(u8, &[(u8, u8)]); 12] = [
     (2, &[(1, 4)]),
 ];
 
+/// Seed, constraint and payload of a row.
+type Row = (u8, u8, u8);
+
+const REPEATS: [(u8, &[Row]); 6] = [
+    // K4 with equal seeds on its second and third rows.
+    (1, &[(0, 1, 7), (1, 1, 9), (1, 1, 9)]),
+    // Equal seeds, but other payloads.
+    (1, &[(0, 1, 7), (0, 1, 9), (1, 1, 9)]),
+    // Equal seeds and payloads, but other constraints.
+    (2, &[(0, 1, 4), (0, 2, 4), (0, 3, 4), (0, 1, 4), (1, 1, 4)]),
+    // Equal but for the seeds.
+    (1, &[(0, 1, 7), (1, 1, 7), (2, 1, 7), (3, 1, 9), (4, 1, 9)]),
+    // One row held, against two.
+    (1, &[(0, 1, 7), (0, 1, 7), (0, 1, 7), (1, 1, 9), (2, 1, 9)]),
+    // Repeats of rows that are not kept, with others between.
+    (1, &[(0, 1, 7), (1, 1, 7), (2, 0, 0), (1, 1, 7), (2, 0, 0)]),
+];
+
+/// More rows than any list has: none repeats another.
+const NEVER: usize = 1_024;
+
 /// How much is lent of each buffer.
 #[derive(Clone, Copy)]
 struct Rooms {
@@ -27,25 +50,28 @@ struct Rooms {
 }
 
 fn main() {
-    for (n, rows) in WORKED {
-        let list: Vec<u8> = rows
-            .iter()
-            .flat_map(|&(constraint, payload)| row(u64::from(constraint), 1, payload))
-            .collect();
-        let marks = rows.len() + 1;
-        print_reading(n, 1, &list, rooms(usize::from(n) + 1, marks, marks, 32_769));
+    for (n, pairs) in WORKED {
+        let numbered = (0..).zip(pairs);
+        let rows: Vec<Row> = numbered.map(|(i, &(c, p))| (i, c, p)).collect();
+        print_case(n, &rows);
+    }
+    for (n, rows) in REPEATS {
+        print_case(n, rows);
     }
 
     let exact = rooms(2_048, 64, 64, 32_768);
     for n in [64, 65, 0, 63] {
-        print_reading(n, 32, &units(32, 2_560), exact);
+        print_reading(n, 32, &units(32, NEVER, 2_816), exact);
     }
-    print_reading(64, 33, &units(33, 2_560), exact);
-    print_reading(64, 1, &units(1, 4_608), rooms(64, 512, 512, 32_768));
-    print_reading(64, 1, &units(1, 4_617), rooms(64, 513, 513, 32_768));
-    print_reading(64, 32, &units(32, 2_559), exact);
+    print_reading(64, 33, &units(33, NEVER, 2_816), exact);
+    print_reading(64, 1, &units(1, NEVER, 6_656), rooms(64, 512, 512, 32_768));
+    print_reading(64, 1, &units(1, NEVER, 6_669), rooms(64, 513, 513, 32_768));
+    print_reading(64, 32, &units(32, NEVER, 2_815), exact);
+    // 256 rows shown twice, and 17 shown thirty times.
+    print_reading(64, 1, &units(1, 256, 6_656), rooms(64, 512, 512, 32_768));
+    print_reading(17, 1, &units(1, 17, 6_630), rooms(17, 510, 510, 32_768));
 
-    let list = units(32, 2_560);
+    let list = units(32, NEVER, 2_816);
     print_reading(
         64,
         32,
@@ -77,19 +103,31 @@ fn rooms(page: usize, uses: usize, roles: usize, scratch: usize) -> Rooms {
     }
 }
 
+/// A worked case, with a byte and a mark more than it needs of each room.
+fn print_case(n: u8, rows: &[Row]) {
+    let list: Vec<u8> = rows
+        .iter()
+        .flat_map(|&(seed, constraint, payload)| row(seed.into(), constraint.into(), 1, payload))
+        .collect();
+    let marks = rows.len() + 1;
+    print_reading(n, 1, &list, rooms(usize::from(n) + 1, marks, marks, 32_769));
+}
+
 /// A row whose payload is zero but for its last byte.
-fn row(constraint: u64, l: usize, last: u8) -> Vec<u8> {
-    let mut row = constraint.to_be_bytes().to_vec();
-    row.resize(7 + l, 0);
+fn row(seed: u32, constraint: u64, l: usize, last: u8) -> Vec<u8> {
+    let mut row = [&seed.to_be_bytes()[..], &constraint.to_be_bytes()].concat();
+    row.resize(11 + l, 0);
     row.push(last);
     row
 }
 
-/// Rows of one symbol each, in turn, with payloads that end in their arrival number; zeros behind the last whole row.
-fn units(l: usize, size: usize) -> Vec<u8> {
-    let rows = size / (8 + l);
-    let mut list: Vec<u8> = (0..rows)
-        .flat_map(|i| row(1 << (i % 64), l, (i % 256) as u8))
+/// Rows 0, 1, 2 and so on, again from 0 after each turn; zeros behind the last whole row.
+///
+/// Row i has the seed i and one symbol, symbol i modulo 64; its payload ends in i.
+fn units(l: u8, turn: usize, size: usize) -> Vec<u8> {
+    let rows = (0..size / row_length(l)).map(|place| place % turn);
+    let mut list: Vec<u8> = rows
+        .flat_map(|i| row(i as u32, 1 << (i % 64), l.into(), (i % 256) as u8))
         .collect();
     list.resize(size, 0);
     list

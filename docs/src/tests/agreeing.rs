@@ -15,13 +15,15 @@ enum Kind {
     Singular,
     Stray,
     Few,
+    /// The same few frames again and again, some of them wrong.
+    Held,
     /// No page at all behind the rows.
     Noise,
 }
 
 use Kind::*;
 
-const KINDS: [Kind; 8] = [
+const KINDS: [Kind; 9] = [
     Good,
     OneInTenWrong,
     TwoVersions,
@@ -29,6 +31,7 @@ const KINDS: [Kind; 8] = [
     Singular,
     Stray,
     Few,
+    Held,
     Noise,
 ];
 
@@ -37,8 +40,14 @@ fn random_list(rng: &mut Rng, kind: Kind, n: u8, l: u8, m: usize) -> Vec<u8> {
     let length = symbols * usize::from(l);
     let versions = [rng.bytes(length), rng.bytes(length)];
     let mask = u64::MAX >> (64 - n);
-    let mut list = Vec::new();
-    for _ in 0..m {
+    let row_bytes = row_length(l);
+    let mut list: Vec<u8> = Vec::new();
+    for arrival in 0..m {
+        if matches!(kind, Held) && arrival > symbols {
+            let start = row_bytes * rng.below(arrival);
+            list.extend_from_within(start..start + row_bytes);
+            continue;
+        }
         let mut constraint = rng.draw() & mask;
         let mut version = 0;
         match kind {
@@ -47,23 +56,28 @@ fn random_list(rng: &mut Rng, kind: Kind, n: u8, l: u8, m: usize) -> Vec<u8> {
             Singular => constraint &= mask >> 1,
             _ => (),
         }
-        let mut row = vec![0; 8 + usize::from(l)];
-        let made = make(n, l, constraint, &versions[version], &mut row);
+        // Of few seeds, some rows have the same and differ in the rest.
+        let seed = match kind {
+            Ties => rng.below(3) as u32,
+            _ => rng.draw() as u32,
+        };
+        let mut row = vec![0; row_bytes];
+        let made = make(n, l, seed, constraint, &versions[version], &mut row);
         assert_eq!(made, (DONE, 0));
         let wrong = match kind {
-            OneInTenWrong => rng.below(10) == 0,
+            OneInTenWrong | Held => rng.below(10) == 0,
             Ties => rng.below(4) == 0,
             Singular | Noise => true,
             _ => false,
         };
         if wrong {
-            row[8..].copy_from_slice(&rng.bytes(usize::from(l)));
+            row[12..].copy_from_slice(&rng.bytes(usize::from(l)));
         }
         list.extend(row);
     }
     if matches!(kind, Stray) && n < 64 && m > 0 {
-        let row = rng.below(m) * (8 + usize::from(l));
-        list[row..row + 8].copy_from_slice(&(mask + 1).to_be_bytes());
+        let constraint = rng.below(m) * row_bytes + 4;
+        list[constraint..constraint + 8].copy_from_slice(&(mask + 1).to_be_bytes());
     }
     list
 }

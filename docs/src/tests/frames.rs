@@ -44,11 +44,11 @@ fn example_of_the_program() {
         "0100040000000502000201010300040000000104000109",
         "0100040000000502000201010300040000000204000109",
     ];
-    let mut list = vec![0; 27];
+    let mut list = vec![0; 39];
     for (arrival, frame) in frames.into_iter().enumerate() {
         assert_eq!(lay(&bytes(frame), 5, 1, 1, arrival, &mut list), (DONE, 0));
     }
-    assert_eq!(list, list_of(&[(1, 7), (1, 9), (1, 9)]));
+    assert_eq!(list, list_of(&[(0, 1, 7), (1, 1, 9), (2, 1, 9)]));
     let refused = FrameReading {
         number: SHORT,
         place: 2,
@@ -83,11 +83,14 @@ fn frames_written_read_and_laid() {
         };
         assert_eq!(read(&frame), expected);
 
-        let row_length = 8 + usize::from(l);
+        let row_length = row_length(l);
         let mut row = before.clone();
         let drawn = constraint(n, seed).unwrap();
-        assert_eq!(make(n, l, drawn, &page, &mut row), (DONE, 0));
+        assert_eq!(make(n, l, seed, drawn, &page, &mut row), (DONE, 0));
         assert_eq!(row[row_length..], before[row_length..]);
+        assert_eq!(row[..4], seed.to_be_bytes());
+        assert_eq!(row[4..12], drawn.to_be_bytes());
+        assert_eq!(row[12..row_length], page::sum(drawn, usize::from(l), &page));
 
         let mut list = rng.bytes(4 * row_length);
         let mut expected = list.clone();
@@ -148,17 +151,20 @@ fn refusals_in_order_write_nothing() {
         (65, 3, &page[..], 64, SHAPE),
         (2, 33, &page[..], 64, SHAPE),
         (2, 3, &page[..5], 0, PAGE_LENGTH),
-        (2, 3, &page[..], 10, ROOM),
+        (2, 3, &page[..], 14, ROOM),
     ] {
         assert_eq!(
             write(1, n, l, 1, page, &mut room[..room_length]),
             (number, 0)
         );
-        assert_eq!(make(n, l, 1, page, &mut room[..room_length]), (number, 0));
+        assert_eq!(
+            make(n, l, 5, 1, page, &mut room[..room_length]),
+            (number, 0)
+        );
     }
     assert_eq!(write(1, 2, 3, 1, &page, &mut room[..24]), (ROOM, 0));
-    assert_eq!(make(2, 3, 4, &page[..5], &mut room), (PAGE_LENGTH, 0));
-    assert_eq!(make(2, 3, 4, &page, &mut room[..10]), (STRAY, 0));
+    assert_eq!(make(2, 3, 5, 4, &page[..5], &mut room), (PAGE_LENGTH, 0));
+    assert_eq!(make(2, 3, 5, 4, &page, &mut room[..14]), (STRAY, 0));
 
     let good = bytes("010004000000d402000202030300040000000104000300aaff");
     assert_eq!(lay(&good[..24], 9, 2, 33, 512, &mut room[..0]), (SHAPE, 0));
@@ -172,6 +178,6 @@ fn refusals_in_order_write_nothing() {
     assert_eq!(lay(&good, 212, 2, 3, 512, &mut room[..0]), (LIST, 0));
     assert_eq!(lay(&good, 212, 2, 3, usize::MAX, &mut room[..0]), (LIST, 0));
     assert_eq!(lay(&good, 212, 2, 3, 511, &mut room), (ROOM, 0));
-    assert_eq!(lay(&good, 212, 2, 3, 1, &mut room[..21]), (ROOM, 0));
+    assert_eq!(lay(&good, 212, 2, 3, 1, &mut room[..29]), (ROOM, 0));
     assert_eq!(room, [170; 64]);
 }

@@ -1,8 +1,8 @@
-//! Holds document 01's readings worked by hand, K1 to K12, and its edges.
+//! Holds document 01's readings worked by hand, K1 to K12, and its edges; the rows have wish 3's seeds.
 
 use super::*;
 
-/// A line of the table: n, the list, number, rank, page, uses in list order, agreement.
+/// A line of the table: n, the list with the seeds 0, 1, 2 and so on, number, rank, page, uses in list order, agreement.
 type Known = (
     u8,
     &'static [(u64, u8)],
@@ -39,7 +39,7 @@ fn worked_by_hand() {
     for (i, (n, rows, number, rank, page, uses, agreement)) in TABLE.into_iter().enumerate() {
         let before = Lent::noise(&mut rng, n, 1, rows.len());
         let mut lent = before.clone();
-        let answer = lent.read(n, 1, &list_of(rows));
+        let answer = lent.read(n, 1, &list_of(&numbered(rows)));
         let expected = Answer {
             number,
             rank,
@@ -53,12 +53,26 @@ fn worked_by_hand() {
     }
 }
 
+/// K4 with equal seeds on its second and third rows: the one against the other, and the third is no
+/// vote.
+#[test]
+fn k4_with_equal_seeds() {
+    let rows = [(0, 1, 7), (1, 1, 9), (1, 1, 9)];
+    let before = Lent::noise(&mut Rng(9), 1, 1, 3);
+    let mut lent = before.clone();
+    let answer = lent.read(1, 1, &list_of(&rows));
+    assert_eq!(answer, Answer::without_page(TIE, 2));
+    assert_eq!(lent.uses[..3], [0, 0, NO]);
+    assert_eq!(lent.roles[..3], [1, 1, 0]);
+    lent.assert_rest_stayed(&before, TIE, 1, 3);
+}
+
 #[test]
 fn roles_of_known_readings() {
     let roles = |number: usize| {
         let (n, rows, ..) = TABLE[number - 1];
         let mut lent = Lent::noise(&mut Rng(2), n, 1, rows.len());
-        lent.read(n, 1, &list_of(rows));
+        lent.read(n, 1, &list_of(&numbered(rows)));
         lent.roles[..rows.len()].to_vec()
     };
     assert_eq!(roles(3), [1, 1]);
@@ -79,7 +93,7 @@ fn number_of(n: u8, l: u8, m: usize, shorten: impl Fn(&mut Lent)) -> u8 {
     before.scratch.truncate(32_768);
     shorten(&mut before);
     let mut lent = before.clone();
-    let answer = lent.read(n, l, &vec![0; (8 + usize::from(l)) * m]);
+    let answer = lent.read(n, l, &vec![0; row_length(l) * m]);
     assert_eq!(answer, Answer::without_page(answer.number, 0));
     lent.assert_rest_stayed(&before, answer.number, 0, m);
     answer.number
@@ -108,19 +122,19 @@ fn edges() {
 #[test]
 fn list_lengths_and_strays() {
     let mut rng = Rng(4);
-    for extra in 1..9 {
+    for extra in 1..13 {
         let mut lent = Lent::noise(&mut rng, 1, 1, 3);
         let before = lent.clone();
-        assert_eq!(lent.read(1, 1, &vec![255; 9 + extra]).number, LIST);
+        assert_eq!(lent.read(1, 1, &vec![255; 13 + extra]).number, LIST);
         assert!(lent == before);
     }
     for n in 1..=64 {
         let top = 1 << (n - 1);
         let mut lent = Lent::noise(&mut rng, n, 1, 3);
-        let inside = list_of(&[(top, 1), (top, 2)]);
+        let inside = list_of(&[(0, top, 1), (1, top, 2)]);
         assert_ne!(lent.read(n, 1, &inside).number, STRAY);
         if n < 64 {
-            let stray = list_of(&[(top, 1), (top << 1, 2), (top << 1, 2)]);
+            let stray = list_of(&[(0, top, 1), (1, top << 1, 2), (1, top << 1, 2)]);
             let expected = Answer {
                 number: STRAY,
                 place: 1,

@@ -4,8 +4,9 @@ mod agreeing;
 mod definition;
 mod frames;
 mod known;
+mod repeats;
 
-use crate::list::{Answer, SCRATCH};
+use crate::list::{row_length, Answer, SCRATCH};
 use crate::number::*;
 use crate::rng::Rng;
 use crate::{reading, straight};
@@ -70,10 +71,20 @@ impl Lent {
     }
 }
 
+/// Seed, constraint and payload of a row.
+type Row = (u32, u64, u8);
+
+/// Rows with the seeds 0, 1, 2 and so on.
+fn numbered(pairs: &[(u64, u8)]) -> Vec<Row> {
+    let seeds = (0..).zip(pairs);
+    seeds.map(|(seed, &(c, p))| (seed, c, p)).collect()
+}
+
 /// A list of rows with payloads of one byte.
-fn list_of(rows: &[(u64, u8)]) -> Vec<u8> {
+fn list_of(rows: &[Row]) -> Vec<u8> {
     let mut list = Vec::new();
-    for (constraint, payload) in rows {
+    for (seed, constraint, payload) in rows {
+        list.extend(seed.to_be_bytes());
         list.extend(constraint.to_be_bytes());
         list.push(*payload);
     }

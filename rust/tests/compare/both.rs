@@ -3,13 +3,13 @@
 use std::fmt;
 
 use plain::both::{read_both, Both, Second};
+use plain::list::row_length;
 use plain::number::*;
 use plain::rng::Rng;
 
 use crate::buffer::Buffer;
 use crate::case::{agree, same, Case, Words};
-use crate::confirmed::confirmed;
-use crate::lists::{rows_of, Lent, ListCase};
+use crate::lists::{told_by_plain, told_by_types, Lent, ListCase, Told};
 use crate::random_lists::random_case;
 use crate::rounds::{assert_frequent, rounds};
 
@@ -30,9 +30,6 @@ struct LentBoth {
 
 /// Number, rank, place and agreement of both, and the rows of the second list.
 type Numbers = [usize; 9];
-
-/// Whether each page is confirmed.
-type Confirmed = [bool; 2];
 
 fn numbers(both: Both) -> Numbers {
     let [(number, rank, place, agreement), (number2, rank2, place2, agreement2)] =
@@ -58,14 +55,14 @@ impl LentBoth {
     }
 
     /// The independent decoder has 16-bit uses, so the pairs are taken apart and put back.
-    fn read_by_plain(&mut self, case: &ListCase) -> (Numbers, Confirmed) {
+    fn read_by_plain(&mut self, case: &ListCase) -> (Numbers, [Told; 2]) {
         let [list2, page2, pairs2, roles2] = self.second.each_mut().map(Buffer::lent);
         let pairs = self.first.uses.lent();
         let mut uses: Vec<u16> = mekorvat::uses(pairs).collect();
         let mut uses2: Vec<u16> = mekorvat::uses(pairs2).collect();
         let second = Second {
-            list: list2,
-            page: page2,
+            list: &mut *list2,
+            page: &mut *page2,
             uses: &mut uses2,
             roles: &mut *roles2,
         };
@@ -79,17 +76,19 @@ impl LentBoth {
             second,
             self.first.scratch.lent(),
         );
-        let roles = self.first.roles.lent();
-        let both_confirmed = [
-            confirmed(both.first.number, rows_of(case), &uses, roles),
-            confirmed(both.second.number, both.rows, &uses2, roles2),
+        let (shape, end2) = ((case.n, case.l), both.rows * row_length(case.l));
+        let (page, roles) = (self.first.page.lent(), self.first.roles.lent());
+        let (number, number2) = (both.first.number, both.second.number);
+        let told = [
+            told_by_plain(number, shape, &case.list, page, &uses, roles),
+            told_by_plain(number2, shape, &list2[..end2], page2, &uses2, roles2),
         ];
         for (pairs, uses) in [(pairs, uses), (pairs2, uses2)] {
             for (pair, uses) in pairs.chunks_exact_mut(2).zip(uses) {
                 pair.copy_from_slice(&uses.to_be_bytes());
             }
         }
-        (numbers(both), both_confirmed)
+        (numbers(both), told)
     }
 
     fn read_by_boundary(&mut self, case: &ListCase) -> Numbers {
@@ -115,7 +114,7 @@ impl LentBoth {
         all
     }
 
-    fn read_by_types(&mut self, case: &ListCase) -> (Numbers, Confirmed) {
+    fn read_by_types(&mut self, case: &ListCase) -> (Numbers, [Told; 2]) {
         let [list, page, uses, roles] = self.second.each_mut().map(Buffer::lent);
         let both = mekorvat::read_both(
             case.n,
@@ -125,7 +124,7 @@ impl LentBoth {
             self.first.uses.lent(),
             self.first.roles.lent(),
             mekorvat::Second {
-                list,
+                list: &mut *list,
                 page,
                 uses: &mut *uses,
                 roles: &mut *roles,
@@ -138,17 +137,18 @@ impl LentBoth {
             place: answer.place(),
             agreement: answer.agreement(),
         };
-        let confirmed = [
-            both.first
-                .confirmed(self.first.uses.lent(), self.first.roles.lent()),
-            both.second.confirmed(uses, roles),
+        let (uses1, roles1) = (self.first.uses.lent(), self.first.roles.lent());
+        let end2 = both.rows * row_length(case.l);
+        let told = [
+            told_by_types(both.first, case.l, &case.list, uses1, roles1),
+            told_by_types(both.second, case.l, &list[..end2], uses, roles),
         ];
         let numbers = numbers(Both {
             first: of(both.first),
             second: of(both.second),
             rows: both.rows,
         });
-        (numbers, confirmed)
+        (numbers, told)
     }
 
     fn same_as(&self, expected: &LentBoth) -> Result<(), String> {
@@ -166,15 +166,15 @@ impl Case for BothCase {
         let mut by_plain = LentBoth::of(self);
         let mut by_boundary = by_plain.clone();
         let mut by_types = by_plain.clone();
-        let (expected, confirmed) = by_plain.read_by_plain(&self.first);
+        let (expected, told) = by_plain.read_by_plain(&self.first);
 
         let found = by_boundary.read_by_boundary(&self.first);
         same("the numbers of both", found, expected)?;
         by_boundary.same_as(&by_plain)?;
 
         let found = by_types.read_by_types(&self.first);
-        let what = "both answers in types, and whether confirmed";
-        same(what, found, (expected, confirmed))?;
+        let what = "both answers in types, whether confirmed, and how many rows disagree";
+        same(what, found, (expected, told))?;
         by_types.same_as(&by_plain)?;
         Ok(expected[if expected[0] == 0 { 4 } else { 0 }] as u8)
     }
@@ -200,7 +200,7 @@ impl fmt::Display for BothCase {
 fn random_pairs() {
     let seen = rounds("pairs", ROUNDS, |round, rng| {
         let first = random_case(round, rng);
-        let rows = first.list.len() / (8 + usize::from(first.l));
+        let rows = first.list.len() / row_length(first.l);
         let page = usize::from(first.n) * usize::from(first.l);
         let mut lengths = [first.list.len(), page, 2 * rows, rows];
         for length in &mut lengths {

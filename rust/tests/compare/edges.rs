@@ -1,5 +1,6 @@
 //! Holds the comparison of list readings at and past every edge of n, L, m and each lent buffer.
 
+use plain::list::row_length;
 use plain::rng::Rng;
 
 use crate::buffer::noise;
@@ -9,10 +10,10 @@ use crate::lists::{Lengths, ListCase};
 /// A list of m rows whose constraints name no symbol beyond the n there are.
 fn list_of(rng: &mut Rng, n: u8, l: u8, m: usize) -> Vec<u8> {
     let mask = u64::MAX.checked_shr(64 - u32::from(n.min(64))).unwrap_or(0);
-    let mut list = noise(rng, (8 + usize::from(l)) * m);
-    for row in list.chunks_exact_mut(8 + usize::from(l)) {
+    let mut list = noise(rng, row_length(l) * m);
+    for row in list.chunks_exact_mut(row_length(l)) {
         let constraint = rng.draw() & mask;
-        row[..8].copy_from_slice(&constraint.to_be_bytes());
+        row[4..12].copy_from_slice(&constraint.to_be_bytes());
     }
     list
 }
@@ -59,9 +60,9 @@ fn every_edge() {
 #[test]
 fn every_list_length() {
     let mut rng = Rng(2);
-    for length in 0..60 {
+    for length in 0..80 {
         let list = vec![0; length];
-        compare_with_all_lengths(&mut rng, 2, 2, length / 10, &list);
+        compare_with_all_lengths(&mut rng, 2, 2, length / 14, &list);
     }
 }
 
@@ -71,8 +72,8 @@ fn every_stray_bit() {
     for n in 1..=64 {
         for bit in 0..64 {
             let mut list = list_of(&mut rng, n, 1, 4);
-            list[9..17].copy_from_slice(&(1u64 << bit).to_be_bytes());
-            list[27..35].copy_from_slice(&(1u64 << bit).to_be_bytes());
+            list[17..25].copy_from_slice(&(1u64 << bit).to_be_bytes());
+            list[43..51].copy_from_slice(&(1u64 << bit).to_be_bytes());
             compare_with_all_lengths(&mut rng, n, 1, 4, &list);
         }
     }

@@ -1,11 +1,15 @@
-//! Holds document 01's readings worked by hand, K1 to K12, and the edges it names.
+//! Holds document 01's readings worked by hand, K1 to K12, with wish 3's seeds, and the edges it names.
 
 use mekorvat::{marks, read_list, uses, Answer, Mark};
 
+/// Constraint and payload of a row; where no seeds are given, they are 0, 1, 2 and so on.
+type Row = (u64, u8);
+
 /// A list of rows with payloads of one byte.
-fn list_of(rows: &[(u64, u8)]) -> Vec<u8> {
+fn list_of(seeds: impl IntoIterator<Item = u32>, rows: &[Row]) -> Vec<u8> {
     let mut list = Vec::new();
-    for (constraint, payload) in rows {
+    for (seed, (constraint, payload)) in seeds.into_iter().zip(rows) {
+        list.extend(seed.to_be_bytes());
         list.extend(constraint.to_be_bytes());
         list.push(*payload);
     }
@@ -19,20 +23,12 @@ struct Read {
     marks: Vec<Mark>,
 }
 
-fn read(n: u8, rows: &[(u64, u8)]) -> Read {
-    let m = rows.len();
+fn read(n: u8, list: &[u8]) -> Read {
+    let m = list.len() / 13;
     let mut page = vec![170; usize::from(n)];
     let (mut pairs, mut roles) = (vec![170; 2 * m], vec![170; m]);
     let mut scratch = vec![170; 32_768];
-    let answer = read_list(
-        n,
-        1,
-        &list_of(rows),
-        &mut page,
-        &mut pairs,
-        &mut roles,
-        &mut scratch,
-    );
+    let answer = read_list(n, 1, list, &mut page, &mut pairs, &mut roles, &mut scratch);
     let marks: Vec<Mark> = marks(&pairs, &roles).collect();
     let cleared = scratch.iter().all(|&byte| byte == 0);
     assert_eq!(cleared, answer.fills_marks());
@@ -51,17 +47,17 @@ fn read(n: u8, rows: &[(u64, u8)]) -> Read {
 }
 
 /// Wants a page and its agreement, and these marks.
-fn gives_page(n: u8, rows: &[(u64, u8)], page: &[u8], agreement: usize, marks: &[Mark]) {
+fn gives_page(n: u8, rows: &[Row], page: &[u8], agreement: usize, marks: &[Mark]) {
     let rank = marks.iter().filter(|mark| mark.role() != 0).count();
-    let read = read(n, rows);
+    let read = read(n, &list_of(0.., rows));
     assert_eq!(read.answer, Answer::Page { rank, agreement });
     assert_eq!(read.page, page);
     assert_eq!(read.marks, marks);
 }
 
 /// Wants an answer without page, and these marks.
-fn gives(n: u8, rows: &[(u64, u8)], answer: Answer, marks: &[Mark]) {
-    let read = read(n, rows);
+fn gives(n: u8, rows: &[Row], answer: Answer, marks: &[Mark]) {
+    let read = read(n, &list_of(0.., rows));
     assert_eq!(read.answer, answer);
     assert_eq!(read.marks, marks);
 }
@@ -96,6 +92,14 @@ fn k3() {
 fn k4() {
     let rows = [(1, 7), (1, 9), (1, 9)];
     gives_page(1, &rows, &[9], 2, &[kept(0), picked(1), NOT_KEPT]);
+}
+
+#[test]
+fn k4_with_equal_seeds() {
+    let rows = [(1, 7), (1, 9), (1, 9)];
+    let read = read(1, &list_of([0, 1, 1], &rows));
+    assert_eq!(read.answer, Answer::Tie { rank: 2 });
+    assert_eq!(read.marks, [kept(0), kept(0), NOT_KEPT]);
 }
 
 #[test]
@@ -153,7 +157,7 @@ fn k12() {
 
 /// The number of a reading of m all-zero rows with this much scratch: 5 if it is not refused.
 fn number_of(n: u8, l: u8, m: usize, scratch: usize) -> u8 {
-    let list = vec![0; (8 + usize::from(l)) * m];
+    let list = vec![0; (12 + usize::from(l)) * m];
     let mut page = vec![0; usize::from(n) * usize::from(l)];
     let (mut uses, mut roles) = (vec![0; 2 * m], vec![0; m]);
     let mut scratch = vec![0; scratch];

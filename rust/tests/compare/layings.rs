@@ -128,6 +128,23 @@ fn random_layings() {
     assert_frequent(&seen, &all);
 }
 
+/// The seed, the constraint, the payload, and not a byte more.
+#[test]
+fn a_row_in_the_middle() {
+    let frame = frame_of(212, 1, 2, 0x0102_0304, &[7, 9]);
+    let id = mekorvat::PageId {
+        page_number: 212,
+        n: 1,
+        l: 2,
+    };
+    let mut list = [170; 3 * 14];
+    assert_eq!(mekorvat::lay(&frame, id, 1, &mut list), Ok(()));
+    let row = [1, 2, 3, 4, 0, 0, 0, 0, 0, 0, 0, 1, 7, 9];
+    assert_eq!(list[..14], [170; 14]);
+    assert_eq!(list[14..28], row);
+    assert_eq!(list[28..], [170; 14]);
+}
+
 #[test]
 fn every_edge() {
     let mut rng = Rng(4);

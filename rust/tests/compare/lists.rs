@@ -2,7 +2,11 @@
 
 use std::fmt;
 
+use mekorvat::Answer;
+use plain::list::row_length;
+use plain::number::DONE;
 use plain::page;
+use plain::reading::disagreeing;
 use plain::rng::Rng;
 
 use crate::buffer::Buffer;
@@ -53,9 +57,37 @@ impl Lengths {
 /// Number, rank, place and agreement.
 type Numbers = (u8, usize, usize, usize);
 
-/// The rows of a case whose list reading is not refused.
-pub fn rows_of(case: &ListCase) -> usize {
-    case.list.len() / (8 + usize::from(case.l))
+/// Of a page: whether it is confirmed, and how many rows count and do not agree with it.
+pub type Told = Option<(bool, usize)>;
+
+/// By the plain program, of its answer's number and of what it left.
+pub fn told_by_plain(
+    number: u8,
+    (n, l): (u8, u8),
+    list: &[u8],
+    page: &[u8],
+    uses: &[u16],
+    roles: &[u8],
+) -> Told {
+    if number != DONE {
+        return None;
+    }
+    let rows = list.len() / row_length(l);
+    let page = &page[..page::length(n, l)];
+    Some((
+        confirmed(number, rows, uses, roles),
+        disagreeing(l, list, page),
+    ))
+}
+
+/// By the crate, of the marks and of the rows that it counts itself.
+pub fn told_by_types(answer: Answer, l: u8, list: &[u8], uses: &[u8], roles: &[u8]) -> Told {
+    let confirmed = answer.confirmed(uses, roles);
+    let Answer::Page { agreement, .. } = answer else {
+        assert!(!confirmed, "there is no page");
+        return None;
+    };
+    Some((confirmed, mekorvat::counted(l, list) - agreement))
 }
 
 #[derive(Clone)]
@@ -78,8 +110,8 @@ impl Lent {
     }
 
     /// The independent decoder has 16-bit uses, so the pairs are taken apart and put back.
-    /// Gives also whether a page is confirmed, by the plain program's marks.
-    fn read_by_plain(&mut self, case: &ListCase) -> (Numbers, bool) {
+    /// Gives also what is told of a page, by the plain program's marks and rows.
+    fn read_by_plain(&mut self, case: &ListCase) -> (Numbers, Told) {
         let pairs = self.uses.lent();
         let mut uses: Vec<u16> = mekorvat::uses(pairs).collect();
         let answer = plain::reading::read_list(
@@ -94,10 +126,16 @@ impl Lent {
         for (pair, uses) in pairs.chunks_exact_mut(2).zip(&uses) {
             pair.copy_from_slice(&uses.to_be_bytes());
         }
-        let roles = self.roles.lent();
-        let confirmed = confirmed(answer.number, rows_of(case), &uses, roles);
+        let told = told_by_plain(
+            answer.number,
+            (case.n, case.l),
+            &case.list,
+            self.page.lent(),
+            &uses,
+            self.roles.lent(),
+        );
         let (rank, place, agreement) = (answer.rank, answer.place, answer.agreement);
-        ((answer.number, rank, place, agreement), confirmed)
+        ((answer.number, rank, place, agreement), told)
     }
 
     fn read_by_boundary(&mut self, case: &ListCase) -> Numbers {
@@ -118,7 +156,7 @@ impl Lent {
         (number, rank, place, agreement)
     }
 
-    fn read_by_types(&mut self, case: &ListCase) -> (Numbers, bool) {
+    fn read_by_types(&mut self, case: &ListCase) -> (Numbers, Told) {
         let answer = mekorvat::read_list(
             case.n,
             case.l,
@@ -129,8 +167,9 @@ impl Lent {
             self.scratch.lent(),
         );
         let (rank, place, agreement) = (answer.rank(), answer.place(), answer.agreement());
-        let confirmed = answer.confirmed(self.uses.lent(), self.roles.lent());
-        ((answer.number(), rank, place, agreement), confirmed)
+        let (uses, roles) = (self.uses.lent(), self.roles.lent());
+        let told = told_by_types(answer, case.l, &case.list, uses, roles);
+        ((answer.number(), rank, place, agreement), told)
     }
 
     pub fn same_as(&self, expected: &Lent) -> Result<(), String> {
@@ -148,14 +187,14 @@ impl Case for ListCase {
         let mut by_types = by_plain.clone();
         let list = self.list.clone();
 
-        let (expected, confirmed) = by_plain.read_by_plain(self);
+        let (expected, told) = by_plain.read_by_plain(self);
         let numbers = by_boundary.read_by_boundary(self);
         same("number, rank, place, agreement", numbers, expected)?;
         by_boundary.same_as(&by_plain)?;
 
         let found = by_types.read_by_types(self);
-        let what = "the answer in types, and whether confirmed";
-        same(what, found, (expected, confirmed))?;
+        let what = "the answer in types, whether confirmed, and how many rows disagree";
+        same(what, found, (expected, told))?;
         by_types.same_as(&by_plain)?;
         same_bytes("list", &self.list, &list)?;
         Ok(expected.0)

@@ -1,6 +1,7 @@
 //! Holds the comparison of list readings on random lists of every kind, size and fault.
 
 use plain::frame::make;
+use plain::list::row_length;
 use plain::number::*;
 use plain::page;
 use plain::rng::Rng;
@@ -26,14 +27,16 @@ enum Kind {
     /// Fewer rows than symbols.
     Few,
     /// The same few frames again and again, some of them wrong.
-    Repeats,
+    Held,
+    /// The same, but some copies differ from their row in the seed, the constraint or the payload.
+    AlmostHeld,
     /// No page at all behind the rows.
     Noise,
 }
 
 use Kind::*;
 
-const KINDS: [Kind; 9] = [
+const KINDS: [Kind; 10] = [
     Good,
     OneInTenWrong,
     TwoVersions,
@@ -41,7 +44,8 @@ const KINDS: [Kind; 9] = [
     Singular,
     Stray,
     Few,
-    Repeats,
+    Held,
+    AlmostHeld,
     Noise,
 ];
 
@@ -96,25 +100,41 @@ fn random_size(rng: &mut Rng) -> (u8, u8, usize) {
 
 fn random_list(rng: &mut Rng, kind: Kind, n: u8, l: u8, m: usize) -> Vec<u8> {
     let symbols = usize::from(n);
-    let row_bytes = 8 + usize::from(l);
+    let row_bytes = row_length(l);
     let versions = [(); 2].map(|()| noise(rng, page::length(n, l)));
     let mut list: Vec<u8> = Vec::with_capacity(row_bytes * m);
     for arrival in 0..m {
-        if kind == Repeats && arrival > symbols {
+        if matches!(kind, Held | AlmostHeld) && arrival > symbols {
             let start = row_bytes * rng.below(arrival);
             list.extend_from_within(start..start + row_bytes);
+            if kind == AlmostHeld {
+                alter(rng, n, &mut list[row_bytes * arrival..]);
+            }
         } else {
             list.extend(random_row(rng, kind, n, l, &versions));
         }
     }
     if kind == Stray && n < 64 && m > 0 {
         for _ in 0..1 + rng.below(3) {
-            let start = row_bytes * rng.below(m);
+            let start = row_bytes * rng.below(m) + 4;
             let stray = 1u64 << (symbols + rng.below(64 - symbols)) | 1;
             list[start..start + 8].copy_from_slice(&stray.to_be_bytes());
         }
     }
     list
+}
+
+/// Another seed, another constraint, another payload, or the same row.
+fn alter(rng: &mut Rng, n: u8, row: &mut [u8]) {
+    match rng.below(8) {
+        0 | 1 => row[rng.below(4)] ^= 1 << rng.below(8),
+        2 => {
+            let symbol = rng.below(usize::from(n));
+            row[11 - symbol / 8] ^= 1 << (symbol % 8);
+        }
+        3 => row[12 + rng.below(row.len() - 12)] ^= 1 << rng.below(8),
+        _ => (),
+    }
 }
 
 fn random_row(rng: &mut Rng, kind: Kind, n: u8, l: u8, versions: &[Vec<u8>; 2]) -> Vec<u8> {
@@ -129,23 +149,28 @@ fn random_row(rng: &mut Rng, kind: Kind, n: u8, l: u8, versions: &[Vec<u8>; 2]) 
         _ => 0,
     };
     let wrong = match kind {
-        OneInTenWrong | Repeats => rng.below(10) == 0,
+        OneInTenWrong | Held | AlmostHeld => rng.below(10) == 0,
         Ties => rng.below(4) == 0,
         Singular | Noise => true,
         _ => false,
     };
-    let mut row = vec![0; 8 + usize::from(l)];
-    let made = make(n, l, constraint, &versions[version], &mut row);
+    let seed = match kind {
+        // So few that rows often have the same, and differ in the rest or not.
+        Ties | Singular => rng.below(3) as u32,
+        _ => rng.draw() as u32,
+    };
+    let mut row = vec![0; row_length(l)];
+    let made = make(n, l, seed, constraint, &versions[version], &mut row);
     assert_eq!(made, (DONE, 0));
     if wrong {
-        row[8..].copy_from_slice(&noise(rng, usize::from(l)));
+        row[12..].copy_from_slice(&noise(rng, usize::from(l)));
     }
     row
 }
 
 /// Makes one of the refusals 1 to 3 apply, mostly just so.
 fn break_case(rng: &mut Rng, case: &mut ListCase, mut needed: Lengths) {
-    let row_bytes = 8 + usize::from(case.l);
+    let row_bytes = row_length(case.l);
     match rng.below(8) {
         0 => case.n = [0, 65, 128, 255][rng.below(4)],
         1 => case.l = [0, 33, 64, 255][rng.below(4)],

@@ -35,9 +35,46 @@ fn a_refused_frame_changes_nothing() {
     assert!(scan.answer().is_some());
 
     // A row that is laid outdates the answer and the marks.
-    scan.offer(&frame).unwrap();
+    scan.offer(&frame_of(5, 1, 1, 1, &[7])).unwrap();
     assert_eq!((scan.rows(), scan.marks().count()), (2, 0));
     assert!(scan.answer().is_none());
+}
+
+#[test]
+fn a_held_frame_changes_nothing() {
+    let frames = [(0, 7), (1, 9), (2, 9)].map(|(seed, byte)| frame_of(5, 1, 1, seed, &[byte]));
+    let mut scan = Scan::new();
+    for frame in &frames {
+        scan.offer(frame).unwrap();
+    }
+    let page = scan.read().unwrap().bytes.to_vec();
+    let answer = scan.answer();
+    for (arrival, frame) in frames.iter().enumerate() {
+        for _ in 0..30 {
+            assert_eq!(scan.offer(frame), Ok(arrival));
+        }
+    }
+    assert_eq!((scan.rows(), scan.held()), (3, 90));
+    assert_eq!((scan.answer(), scan.marks().count()), (answer, 3));
+    assert_eq!(scan.read().unwrap().bytes, page);
+    assert_eq!(scan.answer(), answer);
+}
+
+/// A camera that sees each frame thirty times sees 1,920 until 64 symbols can be there.
+#[test]
+fn held_frames_do_not_fill_the_list() {
+    let written: Vec<u8> = (0..64).collect();
+    let mut scan = Scan::new();
+    let mut frame = [0; 23];
+    for seed in 0..75 {
+        plain::frame::write(5, 64, 1, seed, &written, &mut frame);
+        for _ in 0..30 {
+            scan.offer(&frame).unwrap();
+        }
+    }
+    assert_eq!((scan.rows(), scan.held()), (75, 75 * 29));
+    let page = scan.read().unwrap();
+    assert_eq!((page.bytes, page.agreement), (&written[..], 75));
 }
 
 #[test]
@@ -71,14 +108,16 @@ fn a_known_page_out_of_range() {
 #[test]
 fn a_513th_row() {
     let mut scan = Scan::new();
-    let frame = frame_of(5, 64, 32, 0, &[170; 32]);
-    for arrival in 0..512 {
-        assert_eq!(scan.offer(&frame), Ok(arrival));
+    for seed in 0..512 {
+        let frame = frame_of(5, 1, 1, seed, &[7 + seed as u8 % 2]);
+        assert_eq!(scan.offer(&frame), Ok(seed as usize));
     }
+    let frame = frame_of(5, 1, 1, 512, &[7]);
     assert_eq!(scan.offer(&frame), Err(LayRefusal::List));
     // Document 01's order has 16 before 2.
-    let other = scan.offer(&frame_of(6, 64, 32, 0, &[170; 32]));
+    let other = scan.offer(&frame_of(6, 1, 1, 0, &[7]));
     assert_eq!(other, Err(LayRefusal::OtherPage));
+    // 256 against 256.
     assert_eq!(scan.read(), Err(Next::StartAnew));
-    assert_eq!(scan.answer(), Some(Answer::Few { rank: 1 }));
+    assert_eq!(scan.answer(), Some(Answer::Tie { rank: 2 }));
 }

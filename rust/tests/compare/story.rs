@@ -1,8 +1,12 @@
-//! Holds the stories that all this is for: page 212, saved by two phones, and a frame of it misread.
+//! Holds the stories that all this is for: page 212, saved by two phones, and a frame of it misread,
+//! once or for as long as it is held on the screen.
 
-use mekorvat::{Next, Other, Scan};
+use mekorvat::{
+    lay, read_both, read_frame, Answer, Both, Next, Other, Scan, Second, SCRATCH_BYTES,
+};
 use plain::rng::Rng;
 
+use crate::frames::frame_of;
 use crate::rounds::{assert_frequent, rounds};
 
 const N: u8 = 6;
@@ -70,6 +74,28 @@ fn both_versions_come_back() {
     assert_eq!(versions.page.disagreeing(), apart);
 }
 
+/// Every frame is seen eight times, and both versions are what they are of each frame seen once.
+#[test]
+fn both_versions_of_held_frames() {
+    let (hers, others) = (page(HERS), page(OTHERS));
+    let shown = |seed| if seed % 5 < 3 { &hers } else { &others };
+    let seeds = |times: usize| (0..60).flat_map(move |seed| [seed].repeat(times));
+    let mut once = scan_of(seeds(1).map(|seed| (shown(seed), seed)));
+    let mut held = scan_of(seeds(8).map(|seed| (shown(seed), seed)));
+    assert_eq!(held.held(), 7 * 60);
+    assert_eq!(held.read_both(), once.read_both());
+
+    // In a list that has all 480, those of the second list are there eight times too.
+    let frames: Vec<_> = seeds(8).map(|seed| frame(shown(seed), seed)).collect();
+    let (both, given) = read_both_laid(&frames);
+    let versions = once.read_both().unwrap();
+    let apart = versions.page.disagreeing();
+    assert_eq!(given, versions.page.bytes);
+    assert_eq!(both.rows, 8 * apart);
+    let agreements = (both.first.agreement(), both.second.agreement());
+    assert_eq!(agreements, (60 - apart, apart));
+}
+
 #[test]
 fn a_balance_is_scanned_again() {
     let (hers, others) = (page(HERS), page(OTHERS));
@@ -125,6 +151,90 @@ fn a_wrong_page_with_every_frame_agreeing() {
     assert!(given.confirmed);
 }
 
+/// Ten of her frames, each seen once, and before them one that is misread in one bit and held thirty
+/// times.
+fn frames_with_one_held() -> Vec<Vec<u8>> {
+    let hers = page(HERS);
+    let good = (216..226).map(|seed| frame(&hers, seed)).collect();
+    let mut misread = frame(&hers, 215);
+    misread[22 + 4] ^= 1;
+    [vec![misread; 30], good].concat()
+}
+
+/// The camera sees a held frame thirty times, and misreads it each time in the same way: that is one
+/// frame against the page, and the page comes through. When all thirty counted, 38 of these 40
+/// agreed with the oil change an hour late.
+#[test]
+fn a_misread_frame_held_thirty_times() {
+    let mut scan = Scan::new();
+    for shown in frames_with_one_held() {
+        scan.offer(&shown).unwrap();
+    }
+    let given = scan.read().unwrap();
+    assert_eq!(given.bytes, page(HERS));
+    assert!(given.confirmed);
+    assert_eq!((given.rows, given.agreement), (11, 10));
+    assert_eq!((given.beyond(), given.disagreeing()), (4, 1));
+    assert_eq!(scan.held(), 29);
+}
+
+/// The same in a list that has all thirty: the proved reader counts them once.
+#[test]
+fn a_held_frame_laid_thirty_times() {
+    let (both, given) = read_both_laid(&frames_with_one_held());
+    assert_eq!((both.first.rank(), both.first.agreement()), (7, 10));
+    assert_eq!(given, page(HERS));
+    assert_eq!((both.second, both.rows), (Answer::Few { rank: 1 }, 30));
+}
+
+/// Thirty rows equal but for their seeds count thirty times, and are no held frame: here they are
+/// thirty frames that all say the same wrong thing of the one entry there is. They outvote the two
+/// that are right; that 2 frames disagree is all that tells.
+#[test]
+fn thirty_rows_equal_but_for_their_seeds() {
+    let one = |seed, byte| frame_of(5, 1, 1, seed, &[byte]);
+    let wrong = (0..30).map(|seed| one(seed, 7));
+    let mut scan = Scan::new();
+    for shown in wrong.chain([one(30, 9), one(31, 9)]) {
+        scan.offer(&shown).unwrap();
+    }
+    let given = scan.read().unwrap();
+    assert_eq!((given.bytes, given.agreement), (&[7][..], 30));
+    assert_eq!((given.disagreeing(), scan.held()), (2, 0));
+    let uses: Vec<u16> = scan.marks().map(|mark| mark.uses()).collect();
+    assert_eq!((uses[0], uses[30]), (29, 1));
+}
+
+/// Lays all these frames of page 212 into one list, held or not, and reads both versions of it: the
+/// answers and the first page.
+fn read_both_laid(frames: &[Vec<u8>]) -> (Both, Vec<u8>) {
+    let id = read_frame(&frames[0]).unwrap().id;
+    let mut list = vec![0; frames.len() * id.row_bytes()];
+    for (arrival, frame) in frames.iter().enumerate() {
+        lay(frame, id, arrival, &mut list).unwrap();
+    }
+    let lend = |size: usize| vec![0; size * frames.len()];
+    let (mut page, mut uses, mut roles) = (vec![0; id.page_bytes()], lend(2), lend(1));
+    let (mut page2, mut uses2, mut roles2) = (page.clone(), lend(2), lend(1));
+    let second = Second {
+        list: &mut list.clone(),
+        page: &mut page2,
+        uses: &mut uses2,
+        roles: &mut roles2,
+    };
+    let both = read_both(
+        id.n,
+        id.l,
+        &list,
+        &mut page,
+        &mut uses,
+        &mut roles,
+        second,
+        &mut [0; SCRATCH_BYTES],
+    );
+    (both, page)
+}
+
 /// What a keeper would have had who takes the first page that comes.
 #[derive(Clone, Copy)]
 enum First {
@@ -133,8 +243,8 @@ enum First {
     Wrong,
 }
 
-/// One frame is misread, in its seed or its payload, whichever it is: who scans on until the page
-/// is confirmed has what she wrote.
+/// One frame is misread, in its seed or its payload, whichever it is, and every frame is held for a
+/// while: who scans on until the page is confirmed has what she wrote.
 #[test]
 fn scanned_on_until_confirmed() {
     let seen = rounds("scans with a frame misread", ROUNDS, |_, rng| {
@@ -156,7 +266,9 @@ fn one_misread(rng: &mut Rng) -> First {
             let byte = [15 + rng.below(4), 22 + rng.below(24)][rng.below(2)];
             shown[byte] ^= 1 + rng.below(255) as u8;
         }
-        scan.offer(&shown).unwrap();
+        for _ in 0..1 + rng.below(30) {
+            assert_eq!(scan.offer(&shown), Ok(arrival));
+        }
         let Ok(given) = scan.read() else {
             continue;
         };

@@ -5,7 +5,7 @@ use Prim.Native.Nat.{_*_}
 use denote.Ref.{now}
 use Rattle.rows.specs.Rows.{listRowBytes}
 use Rattle.laying.specs.declared.Laid.{Laid}
-use Rattle.laying.specs.Laying.{toldBy, listAfter, frameRow}
+use Rattle.laying.specs.Laying.{toldBy, listAfter, frameEntry}
 use borrow.Author.Needs.{needs}
 use Rattle.boundary.proofs.mekorvat_lay.Statement.{statement}
 use Rattle.boundary.proofs.mekorvat_lay.Tie as tie
@@ -24,7 +24,7 @@ returns c =
     let S = c .before .before .before .before .before .before .before in
     let laid = c .before .before .before .lay .ensures in (
       c .told-by .ensures ∙ ap toldBy (laid .0),
-      laid .1 ∙ ap (λ (a : Laid). listAfter a (listRowBytes (S .args .l) * S .args .arrival) (frameRow (now (S .args .frame))) (now (S .args .list))) (laid .0),
+      laid .1 ∙ ap (λ (a : Laid). listAfter a (listRowBytes (S .args .l) * S .args .arrival) (frameEntry (now (S .args .frame))) (now (S .args .list))) (laid .0),
     )
 
 pub mekorvat-lay-spec : {M : Type 1} → statement M

@@ -8,7 +8,7 @@ use Rattle.reading.specs.Answer.{answerNumbers}
 use Rattle.reader.specs.Reader.{buffers}
 use Rattle.both.specs.Both.{Pair}
 use Rattle.both.specs.Parts.{second}
-use Rattle.both.specs.Numbers as both
+use Rattle.both_numbers.specs.Numbers as both
 use Rattle.boundary.specs.CrossedBoth.{crossing, crossedBoth}
 use borrow.Author.Needs.{needs}
 use Rattle.boundary.proofs.mekorvat_read_both.Statement.{statement}

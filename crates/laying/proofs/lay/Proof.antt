@@ -13,7 +13,7 @@ use Rattle.frame.specs.Reading.{reading}
 use Rattle.frame.specs.Numbers.{frameNumbers}
 use Rattle.laying.specs.Laying.{samePage, listAfter}
 use Rattle.frame.proofs.Good.{refused-is, good-payload}
-use Rattle.laying.proofs.Laying.{laid-shape, laid-refused, laid-other, laid-placing, row-is}
+use Rattle.laying.proofs.Laying.{laid-shape, laid-refused, laid-other, laid-placing, entry-is}
 use Rattle.laying.proofs.lay.Statement.{statement}
 use Rattle.laying.proofs.lay.Tie as tie
 
@@ -82,11 +82,11 @@ returns-6 c =
     let same = c .before .before .before .before in
     let told = same .before .before .before in
     let a = told .before .before .before .before .before .before .before .before .args in
-    let row = rw (same .before .if3 .left) at (row-is (now (a .frame)) _ _ _ _ (read-as told)) in
+    let entry = rw (same .before .if3 .left) at (entry-is (now (a .frame)) _ _ _ _ (read-as told)) in
     let placed =
     laid-placing (now (a .frame)) (a .page-number) (a .n) (a .l) (a .arrival .0) (now (a .list)) (shaped (told .before .before .before .before)) _ _ _ _ (read-as told)
     (same .before .before .if2 .left) (same .before .if3 .left) (same .if4 .left) in
-    (rw placed (c .before .before .lay-row .ensures .0), rw row (c .before .before .lay-row .ensures .1))
+    (rw placed (c .before .before .lay-row .ensures .0), rw entry (c .before .before .lay-row .ensures .1))
 
 pub lay-spec : {M : Type 1} → statement M
 lay-spec =

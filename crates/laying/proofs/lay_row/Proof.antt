@@ -1,4 +1,4 @@
--- `laying::lay_row` meets its contract: a law for each answer; the row comes back laid at its place.
+-- `laying::lay_row` meets its contract: a law for each answer; the entry comes back laid at its place.
 -- Assumes nothing.
 use mathlib.Core.Path.{_≡_, refl, sym, ap, _∙_}
 use Prim.Native.Nat.{ℕ, _+_, _-_, _*_, _≤_}
@@ -28,10 +28,10 @@ stride-requires : tie.Need-stride-requires
 stride-requires c κs = tt
 
 -- the row starts far below the largest number, whatever the list
-start-small : (c : tie.After-stride) → c .stride .result * c .before .before .before .before .args .arrival .0 ≤ 263 * 511
+start-small : (c : tie.After-stride) → c .stride .result * c .before .before .before .before .args .arrival .0 ≤ 267 * 511
 start-small c =
     let a = c .before .before .before .before .args in
-    let wide : c .stride .result ≤ 263 = omega (arith, c .stride .ensures) in
+    let wide : c .stride .result ≤ 267 = omega (arith, c .stride .ensures) in
     mul-le-mul wide (c .before .if1 .left)
 
 mul-start : tie.Need-mul-start
@@ -59,20 +59,20 @@ returns-3 c =
     let range = shape-range (start .args .n) (start .args .l) (start .pre .0) in
     absurd (draws-one (start .args .n) (start .args .seed) (range .n-low) (range .n-high) (sym (c .before .before .draw .ensures) ∙ c .enum-told .given .1))
 
-sub-put-row : tie.Need-sub-put-row
-sub-put-row c = search needs
+sub-put-entry : tie.Need-sub-put-entry
+sub-put-entry c = search needs
 
-part-put-row-start : tie.Need-part-put-row-start
-part-put-row-start c = search needs
+part-put-entry-start : tie.Need-part-put-entry-start
+part-put-entry-start c = search needs
 
-part-put-row-end : tie.Need-part-put-row-end
-part-put-row-end c = search needs
+part-put-entry-end : tie.Need-part-put-entry-end
+part-put-entry-end c = search needs
 
 payload-requires : tie.Need-payload-requires
 payload-requires c κs = search needs
 
-put-row-requires : tie.Need-put-row-requires
-put-row-requires c κs =
+put-entry-requires : tie.Need-put-entry-requires
+put-entry-requires c κs =
     let start = c .before .before .before .before .before .before .before .before .before .before .before in
     let a = start .args in
     let size = c .before .before .before .before .before .before .before .stride .result in
@@ -90,16 +90,16 @@ returns-4 c =
     let a = start .args in
     let range = shape-range (a .n) (a .l) (start .pre .0) in
     let is-drawn = draws-it (a .n) (a .seed) (range .n-low) (range .n-high) _ (sym (c .before .before .before .before .before .before .before .before .draw .ensures) ∙ c .before .before .before .before .before .before .drawn .given .1) in
-    let head = bytes 8 (constraint (a .n) (a .seed)) in
-    let payload = payloadOf (now (a .frame)) in
-    let put : c .before .before .put-row .last .0 ≡ head ++ payload =
-    rw (is-drawn, c .before .before .before .payload .ensures .0) at (c .before .before .put-row .ensures) in
+    let drawn = constraint (a .n) (a .seed) in
+    let entry = bytes 4 (a .seed) ++ (bytes 8 drawn ++ payloadOf (now (a .frame))) in
+    let put : c .before .before .put-entry .last .0 ≡ entry =
+    rw (is-drawn, c .before .before .before .payload .ensures .0) at (c .before .before .put-entry .ensures) in
     let size = strided .stride .result in
     let at = size * a .arrival .0 in
-    let long : length (head ++ payload) ≡ at + size - at =
-    length-append head payload ∙ omega (arith, length-bytes 8 (constraint (a .n) (a .seed)), start .pre .1, strided .stride .ensures) in (
+    let long : length entry ≡ at + size - at =
+    length-append (bytes 4 (a .seed)) (bytes 8 drawn ++ payloadOf (now (a .frame))) ∙ omega (arith, length-append (bytes 8 drawn) (payloadOf (now (a .frame))), length-bytes 4 (a .seed), length-bytes 8 drawn, start .pre .1, strided .stride .ensures) in (
       sym (placing-row _ _ _ (c .before .before .before .before .before .before .before .before .before .before .before .if1 .left) (rw (← strided .stride .ensures) (c .before .before .before .before .before .before .before .before .before .if2 .left))),
-      rw put (back at _ (head ++ payload) (now (a .list)) long ∙ ap (λ (k : ℕ). lay (k * a .arrival .0) (head ++ payload) (now (a .list))) (strided .stride .ensures)),
+      rw put (back at _ entry (now (a .list)) long ∙ ap (λ (k : ℕ). lay (k * a .arrival .0) entry (now (a .list))) (strided .stride .ensures)),
     )
 
 pub lay-row-spec : {M : Type 1} → statement M
@@ -115,10 +115,10 @@ lay-row-spec =
     enum-known-drawn
     enum-told
     returns-3
-    sub-put-row
-    part-put-row-start
-    part-put-row-end
+    sub-put-entry
+    part-put-entry-start
+    part-put-entry-end
     payload-requires
-    put-row-requires
+    put-entry-requires
     same-length
     returns-4)

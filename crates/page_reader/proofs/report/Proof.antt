@@ -26,7 +26,7 @@ stride-requires : tie.Need-stride-requires
 stride-requires c κs = search needs
 
 -- the rows fit
-fit : (c : tie.After-stride) → c .before .before .before .before .before .args .sheet .rows * c .stride .result ≤ 20480
+fit : (c : tie.After-stride) → c .before .before .before .before .before .args .sheet .rows * c .stride .result ≤ 22528
 fit c =
     let start = c .before .before .before .before .before in
     rw (c .stride .ensures) (rows-fit (start .args .sheet) (start .pre .0) _ (c .before .before .expected .given .1))

@@ -22,7 +22,7 @@ slice-relend-prefix-read-rows : tie.Need-slice-relend-prefix-read-rows
 slice-relend-prefix-read-rows c = omega (arith, wide (c .before .before .before .before .before .before))
 
 slice-aggregate-read-rows : tie.Need-slice-aggregate-read-rows
-slice-aggregate-read-rows c = sym (length-take-le 30848 (c .before .before .before .before .before .before .before .args .scratch .now) (omega (arith, wide (c .before .before .before .before .before .before .before))))
+slice-aggregate-read-rows c = sym (length-take-le 31872 (c .before .before .before .before .before .before .before .args .scratch .now) (omega (arith, wide (c .before .before .before .before .before .before .before))))
 
 read-rows-requires : tie.Need-read-rows-requires
 unfolding stateBytes
@@ -32,7 +32,7 @@ read-rows-requires c κs =
       uses = S .pre .0 .uses;
       scratch = S .pre .0 .scratch;
       passes = S .pre .0 .passes;
-      whole = omega (arith, length-take-le 30848 (S .args .scratch .now) (omega (arith, wide S)));
+      whole = omega (arith, length-take-le 31872 (S .args .scratch .now) (omega (arith, wide S)));
     }
 
 same-length : tie.Need-same-length
@@ -50,8 +50,8 @@ returns c =
     let S = c .before .before .before .before .before .before .before .before .before .before .before .before .before .before in
     let R = c .before .before .before .before .before .before .read-rows in
     let state : List ℕ = R .last .1 .1 .1 .1 .1 .0 in
-    let whole : 30848 ≤ length state = omega (arith, R .kept .1 .1 .1 .1 .1 .0, length-take-le 30848 (S .args .scratch .now) (omega (arith, wide S))) in (
-      reads-longer (S .args .n) (S .args .l) (S .args .list .now) (S .args .page .now) (S .args .roles .now) (R .result) (R .last .1 .1 .1 .0) (R .last .1 .1 .1 .1 .0) state (drop 30848 (S .args .scratch .now)) whole (R .ensures),
+    let whole : 31872 ≤ length state = omega (arith, R .kept .1 .1 .1 .1 .1 .0, length-take-le 31872 (S .args .scratch .now) (omega (arith, wide S))) in (
+      reads-longer (S .args .n) (S .args .l) (S .args .list .now) (S .args .page .now) (S .args .roles .now) (R .result) (R .last .1 .1 .1 .0) (R .last .1 .1 .1 .1 .0) state (drop 31872 (S .args .scratch .now)) whole (R .ensures),
       cleared-anew (S .args .scratch .now) state (S .pre .1) (R .kept .1 .1 .1 .1 .1 .0),
     )
 

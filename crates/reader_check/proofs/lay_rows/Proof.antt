@@ -8,10 +8,10 @@ use Rattle.reader_check.proofs.lay_rows.Statement.{statement}
 use Rattle.reader_check.proofs.lay_rows.Tie as tie
 
 abbrev Inv-loop : tie.InvT-loop
-Inv-loop bytes list₀ i₀ at₀ list i at = (9 ≤ bytes) × (length list ≡ length list₀) × (at ≤ length list₀) × (i ≤ at)
+Inv-loop bytes turn list₀ i₀ at₀ list i at = (13 ≤ bytes) × (1 ≤ turn) × (length list ≡ length list₀) × (at ≤ length list₀) × (i ≤ at)
 
 abbrev μ-loop : tie.MeasureT-loop
-μ-loop bytes list₀ i₀ at₀ list i at = length list₀ - at
+μ-loop bytes turn list₀ i₀ at₀ list i at = length list₀ - at
 
 loop-holds : tie.Need-loop-holds Inv-loop μ-loop
 loop-holds c = omega arith
@@ -21,6 +21,9 @@ sub-loop c = omega arith
 
 add-end : tie.Need-add-end Inv-loop μ-loop
 add-end c = omega arith
+
+rem-lay-row : tie.Need-rem-lay-row Inv-loop μ-loop
+rem-lay-row c = omega arith
 
 sub-lay-row : tie.Need-sub-lay-row Inv-loop μ-loop
 sub-lay-row c = omega arith
@@ -58,6 +61,7 @@ lay-rows-spec =
     loop-holds
     sub-loop
     add-end
+    rem-lay-row
     sub-lay-row
     part-lay-row-start
     part-lay-row-end

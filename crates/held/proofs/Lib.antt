@@ -1,0 +1,12 @@
+pub mod Counting
+pub mod Seen
+pub mod Whole
+pub mod Spread
+pub mod Listed
+pub mod Places
+pub mod Marked
+pub mod Held
+pub mod Once
+pub mod Each
+pub mod Replaced
+pub mod Worked

@@ -1,0 +1,4 @@
+pub mod Alike
+pub mod Behind
+pub mod Repeated
+pub mod Settled
