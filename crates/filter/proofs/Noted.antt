@@ -12,7 +12,8 @@ use lib.ListN.{length, set, getD, length-set}
 use lib.Pow.{pow-pos}
 use lib.Seq.{getD-set-same, getD-set-other}
 use borrow.Author.Tests.{le-leb, lt-leb, eqb-true, eqb-false, eq-eqb}
-use Rattle.filter.specs.Filter.{filterBytes, byteOf, noted, note, noting, noteAnswer, noteFilter}
+use Rattle.space.proofs.Both.{both, both-true}
+use Rattle.filter.specs.Filter.{filterBytes, byteOf, isSet, withSet, second, noted, note, noting, noteAnswer, noteFilter}
 
 -- ---- by the test that the code makes
 
@@ -25,13 +26,13 @@ module _ (seed : ℕ) (filter : List ℕ) where
   unfolding noteAnswer noteFilter
   note-is h = rw (le-leb filterBytes (length filter) h) (refl, refl)
 
-pub byte-inside : (seed : ℕ) → byteOf seed < filterBytes
-unfolding byteOf filterBytes
-byte-inside seed = omega arith
+length-with : (bit : ℕ) (filter : List ℕ) → length (withSet bit filter) ≡ length filter
+unfolding withSet
+length-with bit filter = length-set filter _ _
 
 pub length-note : (seed : ℕ) (filter : List ℕ) → length (note seed filter) ≡ length filter
 unfolding note
-length-note seed filter = length-set filter _ _
+length-note seed filter = length-with (second seed) (withSet seed filter) ∙ length-with seed filter
 
 pub length-noting : (seeds filter : List ℕ) → length (noting seeds filter) ≡ length filter
 unfolding noting
@@ -58,34 +59,57 @@ bit-kept a b k h = bit-or a b k ∙ omega (arith, h)
 bit-set : (a k : ℕ) → bitOr a (2 ^ k) / 2 ^ k % 2 ≡ 1
 bit-set a k = bit-or a (2 ^ k) k ∙ omega (arith, div-self (pow-pos k))
 
--- ---- a seed noted
+byte-inside : (bit : ℕ) → byteOf bit < filterBytes
+unfolding byteOf filterBytes
+byte-inside bit = omega arith
 
-module _ (seed : ℕ) (filter : List ℕ) where
-  pub noted-note : filterBytes ≤ length filter → noted seed (note seed filter) ≡ true
-  unfolding noted note
-  noted-note h =
-      rw (getD-set-same filter (byteOf seed) (bitOr (getD filter (byteOf seed) 0) (2 ^ (seed % 8))) 0 (omega (arith, byte-inside seed)))
-      (eq-eqb _ 1 (bit-set (getD filter (byteOf seed) 0) (seed % 8)))
+module _ (bit : ℕ) (filter : List ℕ) (h : filterBytes ≤ length filter) where
+  set-then : isSet bit (withSet bit filter) ≡ true
+  unfolding isSet withSet
+  set-then =
+      rw (getD-set-same filter (byteOf bit) (bitOr (getD filter (byteOf bit) 0) (2 ^ (bit % 8))) 0 (omega (arith, byte-inside bit)))
+      (eq-eqb _ 1 (bit-set (getD filter (byteOf bit) 0) (bit % 8)))
 
-  pub noted-stays : (other : ℕ) → filterBytes ≤ length filter → noted seed filter ≡ true → noted seed (note other filter) ≡ true
-  unfolding noted note
-  noted-stays other h was = go (eqb (byteOf seed) (byteOf other)) refl
+  set-stays : (other : ℕ) → isSet bit filter ≡ true → isSet bit (withSet other filter) ≡ true
+  unfolding isSet withSet
+  set-stays other was = go (eqb (byteOf bit) (byteOf other)) refl
     where
       now : ℕ
       now = bitOr (getD filter (byteOf other) 0) (2 ^ (other % 8))
 
-      go : (b : Bool) → eqb (byteOf seed) (byteOf other) ≡ b → eqb (getD (set filter (byteOf other) now) (byteOf seed) 0 / 2 ^ (seed % 8) % 2) 1 ≡ true
+      go : (b : Bool) → eqb (byteOf bit) (byteOf other) ≡ b → eqb (getD (set filter (byteOf other) now) (byteOf bit) 0 / 2 ^ (bit % 8) % 2) 1 ≡ true
       go true e =
-          let same : byteOf other ≡ byteOf seed = sym (eqb-true (byteOf seed) (byteOf other) e) in
-          rw (ap (λ (at : ℕ). getD (set filter at now) (byteOf seed) 0) same, getD-set-same filter (byteOf seed) now 0 (omega (arith, byte-inside seed)))
-          (eq-eqb _ 1 (bit-kept (getD filter (byteOf other) 0) (2 ^ (other % 8)) (seed % 8) (rw same (eqb-true _ 1 was))))
-      go false e = rw (getD-set-other filter (byteOf other) (byteOf seed) now 0 (eqb-false (byteOf seed) (byteOf other) e)) was
+          let same : byteOf other ≡ byteOf bit = sym (eqb-true (byteOf bit) (byteOf other) e) in
+          rw (ap (λ (at : ℕ). getD (set filter at now) (byteOf bit) 0) same, getD-set-same filter (byteOf bit) now 0 (omega (arith, byte-inside bit)))
+          (eq-eqb _ 1 (bit-kept (getD filter (byteOf other) 0) (2 ^ (other % 8)) (bit % 8) (rw same (eqb-true _ 1 was))))
+      go false e = rw (getD-set-other filter (byteOf other) (byteOf bit) now 0 (eqb-false (byteOf bit) (byteOf other) e)) was
+
+-- ---- a seed noted
+
+module _ (seed : ℕ) (filter : List ℕ) (h : filterBytes ≤ length filter) where
+  more : (bit : ℕ) → filterBytes ≤ length (withSet bit filter)
+  more bit = omega (arith, h, length-with bit filter)
+
+  pub noted-note : noted seed (note seed filter) ≡ true
+  unfolding noted note
+  noted-note =
+      both-true _ _ (set-stays seed (withSet seed filter) (more seed) (second seed) (set-then seed filter h))
+      (set-then (second seed) (withSet seed filter) (more seed))
+
+  pub noted-stays : (other : ℕ) → noted seed filter ≡ true → noted seed (note other filter) ≡ true
+  unfolding noted note
+  noted-stays other was =
+      let w : (isSet seed filter ≡ true) × (isSet (second seed) filter ≡ true) = both _ _ was in
+      both-true _ _ (stays seed (w .0)) (stays (second seed) (w .1))
+    where
+      stays : (bit : ℕ) → isSet bit filter ≡ true → isSet bit (withSet (second other) (withSet other filter)) ≡ true
+      stays bit is = set-stays bit (withSet other filter) (more other) (second other) (set-stays bit filter h other is)
 
 pub noted-later : (seeds filter : List ℕ) (seed : ℕ) → filterBytes ≤ length filter → noted seed filter ≡ true → noted seed (noting seeds filter) ≡ true
 unfolding noting
 noted-later [] filter seed h was = was
 noted-later (other ∷ seeds) filter seed h was =
-    noted-later seeds (note other filter) seed (omega (arith, length-note other filter)) (noted-stays seed filter other h was)
+    noted-later seeds (note other filter) seed (omega (arith, length-note other filter)) (noted-stays seed filter h other was)
 
 -- a seed is noted that is among those which were
 pub noted-mem : (seeds filter : List ℕ) (seed : ℕ) → filterBytes ≤ length filter → List·Memᴰ seed seeds → noted seed (noting seeds filter) ≡ true

@@ -1,7 +1,7 @@
--- A filter of seeds: a bit for each value of a seed's low 13 bits. Document 02, wish 3: equal rows have equal seeds, so a row whose seed was not noted
--- before is equal to no earlier one.
+-- A filter of seeds: of 8,192 bits each seed has two, one by its low 13 bits and one by the 13 above. Document 02, wish 3: equal rows have equal seeds, so a row
+-- whose seed was not noted before is equal to no earlier one.
 use Prim.Native.Nat.{ℕ, _/_, _%_, _^_}
-use mathlib.Core.Bool.{Bool, true, cond}
+use mathlib.Core.Bool.{Bool, true, cond, _&&_}
 use mathlib.Core.List.{List, [], _∷_}
 use lib.Bits.{bitOr}
 use lib.Dec.{eqb, leb}
@@ -10,17 +10,32 @@ use lib.ListN.{length, set, getD}
 unfoldable pub filterBytes : ℕ
 filterBytes = 1024
 
--- The byte in which the bit of a seed stands.
+-- ---- one bit, by its number modulo 8,192
+
+-- The byte in which it stands.
 unfoldable pub byteOf : ℕ → ℕ
-byteOf seed = seed / 8 % filterBytes
+byteOf bit = bit / 8 % filterBytes
 
--- Whether a seed was noted, or one that has the same bit.
+-- Whether it is set, and the filter with it set.
+unfoldable pub isSet : ℕ → List ℕ → Bool
+isSet bit filter = eqb (getD filter (byteOf bit) 0 / 2 ^ (bit % 8) % 2) 1
+
+unfoldable pub withSet : ℕ → List ℕ → List ℕ
+withSet bit filter = set filter (byteOf bit) (bitOr (getD filter (byteOf bit) 0) (2 ^ (bit % 8)))
+
+-- ---- seeds
+
+-- The number of a seed's second bit; the first has the seed's own.
+unfoldable pub second : ℕ → ℕ
+second seed = seed / 8192
+
+-- Whether a seed was noted, or others that have its bits.
 unfoldable pub noted : ℕ → List ℕ → Bool
-noted seed filter = eqb (getD filter (byteOf seed) 0 / 2 ^ (seed % 8) % 2) 1
+noted seed filter = isSet seed filter && isSet (second seed) filter
 
--- The filter with the bit of a seed set; and with those of several.
+-- The filter with a seed noted; and with several.
 unfoldable pub note : ℕ → List ℕ → List ℕ
-note seed filter = set filter (byteOf seed) (bitOr (getD filter (byteOf seed) 0) (2 ^ (seed % 8)))
+note seed filter = withSet (second seed) (withSet seed filter)
 
 unfoldable pub noting : List ℕ → List ℕ → List ℕ
 noting [] filter = filter

@@ -10,6 +10,7 @@ use lib.Dec.{ltb}
 use lib.ListN.{length, getD, take, drop, length-drop}
 use lib.Seq.{drop-drop, getD-drop}
 use borrow.Author.Tests.{le-leb, lt-ltb, eq-eqb, ne-eqb}
+use Rattle.space.proofs.Both.{both-true}
 use Rattle.octets.specs.Octets.{number}
 use Rattle.rows.specs.Rows.{shape}
 use Rattle.field.specs.declared.Field.{Field}
@@ -22,9 +23,6 @@ use Rattle.frame.specs.Reading.{refusing, behind, first, nOf, lOf, secon
 use Rattle.frame.specs.Pointed.{someField, badTag, badLength, pointed}
 use Rattle.frame.proofs.Tests.{either}
 use Rattle.frame.proofs.Whole.{Whole, Told, told}
-
-both-true : (a b : Bool) → a ≡ true → b ≡ true → (a && b) ≡ true
-both-true a b e f = rw (e, f)
 
 module _ (frame : List ℕ) where
   abbrev Right : Frame → Type 0
