@@ -16,7 +16,8 @@ use Rattle.lists.specs.Lists.{rowAt}
 use Rattle.basis.specs.Algorithm2.{Pass}
 use Rattle.tally.specs.Tally.{mostKept}
 use Rattle.state.specs.Layout.{orderAt, stateBytes, orderIn}
-use Rattle.state.specs.Written.{emptied, headOf, placedState, rowKept, keeps, keptState, rowCounted, counts, countedState}
+use Rattle.state.specs.Written.{emptied}
+use Rattle.keeping.specs.Keeping.{headOf, placedState, rowKept, keeps, keptState, rowCounted, counts, countedState}
 use Rattle.absorb.specs.declared.Absorbed.the-variants.{Misfit}
 use Rattle.absorb.specs.Absorbing.{Absorption, absorbedAs, passIn, taken, takes, absorption}
 use Rattle.echelon.specs.Eliminating.{Elimination, Eliminating, oneMore, absorbIn, eliminates, elimination}

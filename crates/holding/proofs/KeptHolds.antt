@@ -19,7 +19,7 @@ use Rattle.reading.proofs.KeptPlaces.{taken-snoc, places-kept}
 use Rattle.basis.specs.Algorithm2.{Pass, Working, keeping, step}
 use Rattle.tally.specs.Tally.{mostKept}
 use Rattle.state.specs.Layout.{vectorBytes, usesIn}
-use Rattle.state.specs.Written.{KeepRoom, keptState}
+use Rattle.keeping.specs.Keeping.{KeepRoom, keptState}
 use Rattle.state.proofs.Sizes.{sizes}
 use Rattle.views.proofs.KeptRow.{kept-length, kept-slots, kept-uses, kept-places}
 use Rattle.absorb.specs.Absorbing.{tailDigits}

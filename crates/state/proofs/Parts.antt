@@ -1,24 +1,20 @@
 -- The parts that a state hands back, by the tests that the code makes; and its parts that came back written.
 -- Assumes nothing.
-use mathlib.Core.Path.{_≡_, refl, sym, ap, _∙_}
+use mathlib.Core.Path.{_≡_, refl, ap, _∙_}
 use mathlib.Core.Bool.{Bool, true, false}
 use mathlib.Core.List.{List, _++_}
-use Prim.Native.Nat.{ℕ, _+_, _-_, _*_, _≤_, _<_}
+use Prim.Native.Nat.{ℕ, _+_, _*_, _≤_, _<_}
 use native.Mathlib.Omega.{arith}
 use lib.Seq.{length-take-le}
 use lib.ListN.{length, take, drop, replicate, length-replicate}
 use borrow.Author.Tests.{le-leb, lt-leb}
 use borrow.Rule.Slice.PartMut.{putMid}
-use Rattle.octets.specs.Octets.{number, numbers, flat, over, lay}
+use Rattle.octets.specs.Octets.{over, lay}
 use Rattle.octets.proofs.Parts.{back}
-use Rattle.octets.proofs.Views.{numbers-take, length-part}
-use Rattle.reading.specs.Raised.{raised}
-use Rattle.basis.specs.Algorithm2.{digits}
+use Rattle.octets.proofs.Views.{length-part}
 use Rattle.filter.specs.Filter.{filterBytes, noted, note, noteAnswer, noteFilter}
 use Rattle.filter.proofs.Noted.{note-is, length-note}
-use Rattle.tally.specs.Tally.{mostKept, tailBytes, raisedUses, tallied}
-use Rattle.tally.proofs.Fits.{tallied-is}
-use Rattle.state.specs.Layout.{usesAt, orderAt, stateBytes, usesIn, hasPart, partAt, part}
+use Rattle.state.specs.Layout.{orderAt, stateBytes, hasPart, partAt, part}
 use Rattle.state.proofs.Sizes.{sizes}
 
 -- ---- handed back
@@ -69,15 +65,3 @@ module _ (at k : ℕ) (state new : List ℕ) (h : at + k ≤ length state) where
     noted-laid e =
         let is : new ≡ note seed (take k (drop at state)) = e ∙ note-is seed (take k (drop at state)) enough .1 in
         back at k new state (ap length is ∙ length-note seed (take k (drop at state)) ∙ length-part k at state h) ∙ ap (λ (v : List ℕ). lay at v state) is
-
--- the uses counted
-pub counted-laid : (tail : List ℕ) (r : ℕ) (state new : List ℕ) → length tail ≡ tailBytes → r ≤ mostKept → stateBytes ≤ length state
-    → length new ≡ length (take (usesAt + 2 * r - usesAt) (drop usesAt state)) → new ≡ tallied r tail (take (usesAt + 2 * r - usesAt) (drop usesAt state))
-    → putMid usesAt (usesAt + 2 * r - usesAt) state new ≡ lay usesAt (flat 2 (raised (digits r (number tail)) (usesIn r state))) state
-unfolding usesIn raisedUses
-counted-laid tail r state new t hr hs n e =
-    let k : usesAt + 2 * r - usesAt ≡ 2 * r = omega arith in
-    let size : length (take (usesAt + 2 * r - usesAt) (drop usesAt state)) ≡ 2 * r = rw k (length-part (2 * r) usesAt state (omega (arith, sizes))) in
-    back usesAt (usesAt + 2 * r - usesAt) new state (n ∙ size ∙ sym k)
-    ∙ ap (λ (l : List ℕ). lay usesAt l state) (e ∙ tallied-is r tail (take (usesAt + 2 * r - usesAt) (drop usesAt state)) hr t size
-    ∙ ap (λ (us : List ℕ). flat 2 (raised (digits r (number tail)) us)) (numbers-take 2 r (usesAt + 2 * r - usesAt) (drop usesAt state) (omega arith)))

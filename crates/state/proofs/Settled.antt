@@ -20,12 +20,6 @@ use Rattle.state.proofs.note.Kinds as note
 use Rattle.state.proofs.note.Reads as note-contract
 use Rattle.state.proofs.clear.Kinds as clear
 use Rattle.state.proofs.clear.Reads as clear-contract
-use Rattle.state.proofs.reduce.Kinds as reduce
-use Rattle.state.proofs.reduce.Reads as reduce-contract
-use Rattle.state.proofs.keep.Kinds as keep
-use Rattle.state.proofs.keep.Reads as keep-contract
-use Rattle.state.proofs.count.Kinds as count
-use Rattle.state.proofs.count.Reads as count-contract
 
 pub put-arrival-settled : Settles put-arrival.ps put-arrival.r put-arrival-contract.Post
 put-arrival-settled κs args = unique (λ o is. ap (λ v. (tt, (v, (tt, (tt, tt))))) is)
@@ -38,15 +32,6 @@ note-settled κs args = unique (λ o is. ap₂ (λ r v. (r, (v, (tt, tt)))) (is 
 
 pub clear-settled : Settles clear.ps clear.r clear-contract.Post
 clear-settled κs args = unique (λ o is. ap (λ v. (tt, (v, tt))) is)
-
-pub reduce-settled : Settles reduce.ps reduce.r reduce-contract.Post
-reduce-settled κs args = unique (λ o is. ap₂ (λ r v. (r, (v, (tt, (tt, tt))))) (is .0) (is .1))
-
-pub keep-settled : Settles keep.ps keep.r keep-contract.Post
-keep-settled κs args = unique (λ o is. ap (λ v. (tt, (v, (tt, (tt, (tt, (tt, tt))))))) is)
-
-pub count-settled : Settles count.ps count.r count-contract.Post
-count-settled κs args = unique (λ o is. ap (λ v. (tt, (v, (tt, (tt, (tt, tt)))))) is)
 
 -- Where the part that each of three hands back points, and what it shows.
 module _ (κs : Lfts 1) (args : Dens κs uses.ps) (o p : Outcome uses.ps uses.r uses-contract.Post κs args) where

@@ -1,14 +1,12 @@
--- The numbers of the layout: the slots end where the uses begin, and the heads where the order does.
+-- The numbers of the layout: the slots end where the uses begin.
 -- Assumes nothing.
 use mathlib.Core.Path.{_≡_, refl}
 use Prim.Native.Nat.{ℕ, _+_, _*_, _≤_, _<_}
 use native.Mathlib.Nat.{mul-le-mul-right, suc-mul}
 use native.Mathlib.Omega.{arith}
 use Rattle.filter.specs.Filter.{filterBytes}
-use Rattle.slotting.specs.Slotting.{headIn}
 use Rattle.tally.specs.Tally.{mostKept, tailBytes}
 use Rattle.state.specs.Layout.{vectorBytes, usesAt, placesAt, headsAt, orderAt, filterAt, stateBytes}
-use Rattle.state.specs.Written.{headAt}
 
 pub sizes : (mostKept ≡ 320) × (tailBytes ≡ 40) × (vectorBytes ≡ 80) × (usesAt ≡ 25600) × (placesAt ≡ 26240) × (headsAt ≡ 27264) × (orderAt ≡ 29824) × (filterAt ≡ 30848)
     × (stateBytes ≡ 31872) × (filterBytes ≡ 1024)
@@ -22,8 +20,3 @@ slots-end key h = let a : 8 * key ≤ 320 = omega arith in omega (arith, mul-le-
 pub slot-end : (t : ℕ) → t < mostKept → t * vectorBytes + vectorBytes ≤ usesAt
 unfolding mostKept
 slot-end t l = omega (arith, mul-le-mul-right vectorBytes l, suc-mul t vectorBytes, sizes)
-
--- the heads of 320 slots end where the order begins
-pub head-end : (t : ℕ) → t < mostKept → (headsAt ≤ headAt t) × (headAt t + 8 ≤ orderAt)
-unfolding headAt headIn
-head-end t h = (omega arith, omega (arith, sizes))

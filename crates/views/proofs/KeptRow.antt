@@ -15,10 +15,11 @@ use Rattle.octets.proofs.Numbers.{length-bytes}
 use Rattle.octets.proofs.Lay.{length-lay}
 use Rattle.tally.specs.Tally.{mostKept}
 use Rattle.state.specs.Layout.{vectorBytes, usesAt, placesAt, headsAt, orderAt, stateBytes, slotsIn, usesIn, placesIn, orderIn}
-use Rattle.state.specs.Written.{headAt, headOf, placedState, KeepRoom, rowKept, keeps, keptState}
+use Rattle.keeping.specs.Keeping.{headAt, headOf, placedState, KeepRoom, rowKept, keeps, keptState}
 use Rattle.slotting.proofs.Fits.{length-headOf}
-use Rattle.state.proofs.Sizes.{sizes, slot-end, head-end}
-use Rattle.state.proofs.Fits.{kept-is}
+use Rattle.state.proofs.Sizes.{sizes, slot-end}
+use Rattle.keeping.proofs.Back.{head-end}
+use Rattle.keeping.proofs.Fits.{kept-is}
 use Rattle.views.proofs.Laid.{unless, slots-stay, pairs-before, pairs-behind, pairs-set, set-last, slot-set}
 
 module _ (t : ℕ) (vector : List ℕ) (m r : ℕ) (state : List ℕ) (K : KeepRoom t m r (length vector) (length state)) where

@@ -3,11 +3,11 @@
 use native.Mathlib.Omega.{arith}
 use borrow.Author.Needs.{needs}
 use Rattle.slotting.proofs.Fits.{head-part}
 use Rattle.state.specs.Layout.{headsAt}
-use Rattle.state.specs.Written.{headAt}
+use Rattle.keeping.specs.Keeping.{headAt}
 use Rattle.state.proofs.Sizes.{sizes}
-use Rattle.state.proofs.put_head.Statement.{statement}
-use Rattle.state.proofs.put_head.Tie as tie
+use Rattle.keeping.proofs.put_head.Statement.{statement}
+use Rattle.keeping.proofs.put_head.Tie as tie
 
 sub-put-head : tie.Need-sub-put-head
 sub-put-head c = search needs

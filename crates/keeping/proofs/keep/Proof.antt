@@ -4,11 +4,11 @@ use borrow.Author.Needs.{needs}
 use mathlib.Core.Path.{sym, _∙_}
 use lib.ListN.{length}
 use Rattle.tally.specs.Tally.{mostKept}
 use Rattle.state.specs.Layout.{vectorBytes, stateBytes}
-use Rattle.state.specs.Written.{KeepRoom}
-use Rattle.state.proofs.Fits.{no-slot, kept-late, kept-full, no-vector, kept-short, kept-is}
-use Rattle.state.proofs.keep.Statement.{statement}
-use Rattle.state.proofs.keep.Tie as tie
+use Rattle.keeping.specs.Keeping.{KeepRoom}
+use Rattle.keeping.proofs.Fits.{no-slot, kept-late, kept-full, no-vector, kept-short, kept-is}
+use Rattle.keeping.proofs.keep.Statement.{statement}
+use Rattle.keeping.proofs.keep.Tie as tie
 
 returns : tie.Need-returns
 unfolding mostKept

@@ -6,13 +6,13 @@ use Prim.Native.Nat.{ℕ, _+_, _*_, _%_}
 use borrow.Rule.Slice.PartMut.{putMid}
 use Rattle.octets.specs.Octets.{bytes, lay}
 use Rattle.doubles.proofs.Doubles.{pair-part}
 use Rattle.state.specs.Layout.{usesAt, placesAt}
-use Rattle.state.specs.Written.{placedState}
+use Rattle.keeping.specs.Keeping.{placedState}
 use Rattle.state.proofs.Sizes.{sizes}
 use native.Mathlib.Omega.{arith}
 use borrow.Author.Needs.{needs}
-use Rattle.state.proofs.give_place.Statement.{statement}
-use Rattle.state.proofs.give_place.Tie as tie
+use Rattle.keeping.proofs.give_place.Statement.{statement}
+use Rattle.keeping.proofs.give_place.Tie as tie
 
 sub-give : tie.Need-sub-give
 sub-give c = search needs

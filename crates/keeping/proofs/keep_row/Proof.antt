@@ -4,12 +4,12 @@ use mathlib.Core.Path.{ap, _∙_}
 use Prim.Native.Nat.{ℕ, _*_, _^_}
 use Rattle.space.specs.Space.{_⊕_}
 use Rattle.octets.specs.Octets.{number, bytes, lay}
 use Rattle.state.specs.Layout.{vectorBytes}
-use Rattle.state.specs.Written.{headAt, headOf, rowKept}
+use Rattle.keeping.specs.Keeping.{headAt, headOf, rowKept}
 use native.Mathlib.Omega.{arith}
 use borrow.Author.Needs.{needs}
-use Rattle.state.proofs.keep_row.Statement.{statement}
-use Rattle.state.proofs.keep_row.Tie as tie
+use Rattle.keeping.proofs.keep_row.Statement.{statement}
+use Rattle.keeping.proofs.keep_row.Tie as tie
 
 give-place-requires : tie.Need-give-place-requires
 give-place-requires c κs =

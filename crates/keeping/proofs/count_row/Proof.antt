@@ -6,14 +6,14 @@ use Prim.Native.Nat.{ℕ, _+_, _-_, _*_}
 use borrow.Rule.Slice.PartMut.{putMid}
 use Rattle.octets.specs.Octets.{bytes, lay}
 use Rattle.doubles.proofs.Doubles.{pair-part}
 use Rattle.state.specs.Layout.{usesAt, placesAt}
-use Rattle.state.specs.Written.{rowCounted}
+use Rattle.keeping.specs.Keeping.{rowCounted}
 use Rattle.state.proofs.Sizes.{sizes}
-use Rattle.state.proofs.Parts.{counted-laid}
+use Rattle.keeping.proofs.Back.{counted-laid}
 use native.Mathlib.Omega.{arith}
 use borrow.Author.Needs.{needs}
-use Rattle.state.proofs.count_row.Statement.{statement}
-use Rattle.state.proofs.count_row.Tie as tie
+use Rattle.keeping.proofs.count_row.Statement.{statement}
+use Rattle.keeping.proofs.count_row.Tie as tie
 
 mul-e : tie.Need-mul-e
 mul-e c = omega (arith, sizes, c .before .before .pre .rank)

@@ -4,11 +4,11 @@ use borrow.Author.Needs.{needs}
 use mathlib.Core.Path.{sym, _∙_}
 use lib.ListN.{length}
 use Rattle.tally.specs.Tally.{mostKept, tailBytes}
 use Rattle.state.specs.Layout.{stateBytes}
-use Rattle.state.specs.Written.{CountRoom}
-use Rattle.state.proofs.Fits.{no-tail, counted-late, counted-many, counted-short, counted-is}
-use Rattle.state.proofs.count.Statement.{statement}
-use Rattle.state.proofs.count.Tie as tie
+use Rattle.keeping.specs.Keeping.{CountRoom}
+use Rattle.keeping.proofs.Fits.{no-tail, counted-late, counted-many, counted-short, counted-is}
+use Rattle.keeping.proofs.count.Statement.{statement}
+use Rattle.keeping.proofs.count.Tie as tie
 
 returns : tie.Need-returns
 unfolding tailBytes

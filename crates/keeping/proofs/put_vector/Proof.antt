@@ -12,10 +12,10 @@ use Rattle.space.specs.Space.{_⊕_}
 use Rattle.octets.specs.Octets.{number, bytes, lay}
 use Rattle.places.specs.Places.{named}
 use Rattle.slotting.proofs.Fits.{slot-part}
 use Rattle.state.specs.Layout.{vectorBytes}
 use Rattle.state.proofs.Sizes.{sizes, slot-end}
-use Rattle.state.proofs.put_vector.Statement.{statement}
-use Rattle.state.proofs.put_vector.Tie as tie
+use Rattle.keeping.proofs.put_vector.Statement.{statement}
+use Rattle.keeping.proofs.put_vector.Tie as tie
 
 slice-relend-prefix-put : tie.Need-slice-relend-prefix-put
 slice-relend-prefix-put c = omega (arith, sizes, c .before .before .pre .2)
