@@ -21,7 +21,7 @@ use Rattle.octets.proofs.Xors.{length-xorBytes, xorBytes-below, xorBytes-assoc}
 use Rattle.words.specs.Words.{littleAt}
 use Rattle.words.proofs.Littles.{little-⊕, little-zero, zero-little}
 use Rattle.rows.specs.Rows.{named}
-use Rattle.rows.specs.Make.{cut}
+use Rattle.rows.specs.Bytes.{cut}
 use Rattle.agree.specs.Quads.{quadOf, quadPlus, quadNone}
 use Rattle.rows.proofs.Pages.{symbols-small}
 use Rattle.rows.proofs.Bits.{symbol-bytes, added, length-added}

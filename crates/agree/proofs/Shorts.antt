@@ -13,7 +13,7 @@ use Rattle.space.proofs.Xor.{⊕-zero, ⊕-assoc}
 use Rattle.octets.specs.Octets.{number}
 use Rattle.words.specs.Words.{wordAt}
 use Rattle.words.proofs.Words.{word-front}
-use Rattle.rows.specs.Make.{cut}
+use Rattle.rows.specs.Bytes.{cut}
 use Rattle.rows.proofs.Bits.{symbol-inside, symbol-number}
 
 -- What stands in the l highest bytes of a word.

@@ -5,7 +5,7 @@ ghost use lib.Dec.{eqb};
 ghost use lib.ListN.{length};
 ghost use Rattle.octets.specs.Octets.{number};
 ghost use Rattle.rows.specs.Rows.{named};
-ghost use Rattle.rows.specs.Make.{cut, bytesAgree};
+ghost use Rattle.rows.specs.Bytes.{cut, bytesAgree};
 ghost use Rattle.agree.specs.Quads.{quadOf, quadPlus, quadNone};
 
 // Four words that cover 8 to 32 bytes, so that a sum of symbols stays in registers. Where there are fewer than 32, the words overlap.

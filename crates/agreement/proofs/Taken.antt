@@ -12,7 +12,7 @@ use Rattle.rows.proofs.Lists.{length-entriesOf}
 use Rattle.reading.specs.Reading.{agreement}
 use Rattle.reading.specs.Orders.{taken}
 use Rattle.reading.proofs.Spread.{getD-mapped}
-use Rattle.rows.specs.Make.{cut, bytesAgree}
+use Rattle.rows.specs.Bytes.{cut, bytesAgree}
 use Rattle.rows.proofs.Written.{bytesAgree-row}
 use Rattle.lists.specs.Lists.{rowAt}
 use Rattle.lists.proofs.Rows.{row-length, row-number}

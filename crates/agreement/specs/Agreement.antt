@@ -3,7 +3,7 @@ use Prim.Native.Nat.{ℕ}
 use mathlib.Core.List.{List}
 use Rattle.space.specs.Lists.{count}
 use Rattle.doubles.specs.Doubles.{pairsIn}
-use Rattle.rows.specs.Make.{bytesAgree}
+use Rattle.rows.specs.Bytes.{bytesAgree}
 use Rattle.lists.specs.Lists.{rowAt}
 
 -- "Agreement is the number of list rows, kept or not, that agree with the page", of the rows at the arrival numbers in these bytes, 2 each.

@@ -9,7 +9,7 @@ use lib.ListN.{length}
 use borrow.Author.Tests.{leb-true, le-leb}
 use Rattle.space.proofs.Both.{both}
 use Rattle.rows.specs.Rows.{listRowBytes, rowCount, entriesOf}
-use Rattle.rows.specs.Make.{cut}
+use Rattle.rows.specs.Bytes.{cut}
 use Rattle.apart.specs.Apart.{apart, gathers, gathered, gatherable, gatheredFrom}
 
 pub record Gatherable (l list room : ℕ) : Type 0 where

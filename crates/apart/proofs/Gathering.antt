@@ -15,7 +15,7 @@ use Rattle.octets.proofs.Numbers.{bytes-number}
 use Rattle.octets.proofs.Runs.{flat-snoc, length-flat, over-none}
 use Rattle.octets.proofs.Lay.{lay-over}
 use Rattle.rows.specs.Rows.{listRowBytes, rowCount, entriesOf, vector, rowsOf, agrees}
-use Rattle.rows.specs.Make.{cut, bytesAgree}
+use Rattle.rows.specs.Bytes.{cut, bytesAgree}
 use Rattle.rows.proofs.Lists.{length-entriesOf}
 use Rattle.rows.proofs.Written.{bytesAgree-row}
 use Rattle.lists.specs.Lists.{entryAt, rowAt}

@@ -8,7 +8,7 @@ use Rattle.space.specs.Lists.{select}
 use Rattle.octets.specs.Octets.{flat, over, lay}
 use Rattle.places.specs.Places.{mostRows}
 use Rattle.rows.specs.Rows.{listRowBytes, entriesOf, vector, agrees}
-use Rattle.rows.specs.Make.{cut, bytesAgree}
+use Rattle.rows.specs.Bytes.{cut, bytesAgree}
 
 -- "those rows in their old order": the entries of the ones that don't agree with a page.
 unfoldable pub apart : ℕ → List ℕ → List ℕ → List ℕ

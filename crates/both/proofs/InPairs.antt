@@ -11,7 +11,7 @@ use Rattle.octets.specs.Octets.{flat, over}
 use Rattle.octets.proofs.Runs.{length-numbers}
 use Rattle.octets.proofs.Back.{over-same}
 use Rattle.rows.specs.Rows.{entriesOf}
-use Rattle.rows.specs.Make.{cut}
+use Rattle.rows.specs.Bytes.{cut}
 use Rattle.reading.specs.declared.Answer.{Answer}
 use Rattle.reading.specs.declared.Answer.the-variants as answer
 use Rattle.reading.specs.Outcome.{Lent, Outcome, passes, checks, outcome, gave}

@@ -15,7 +15,7 @@ use Rattle.space.proofs.Both.{both}
 use Rattle.octets.specs.Octets.{numbers, flat, over}
 use Rattle.octets.proofs.Runs.{length-flat, numbers-flat, take-over}
 use Rattle.rows.specs.Rows.{shape, symbols, listRowBytes, rowCount, entriesOf, rowsOf}
-use Rattle.rows.specs.Make.{cut}
+use Rattle.rows.specs.Bytes.{cut}
 use Rattle.reading.specs.declared.Answer.{Answer}
 use Rattle.reading.specs.declared.Answer.the-variants as answer
 use Rattle.reading.specs.Answer.{answerNumbers}

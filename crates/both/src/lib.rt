@@ -2,7 +2,7 @@
 // Document 02, wish 1.
 ghost use mathlib.Core.Path.{_≡_};
 ghost use Rattle.rows.specs.Rows.{entriesOf};
-ghost use Rattle.rows.specs.Make.{cut};
+ghost use Rattle.rows.specs.Bytes.{cut};
 ghost use Rattle.reader.specs.Reader.{buffers};
 ghost use Rattle.apart.specs.Apart.{apart};
 ghost use Rattle.both.specs.Pairs.{countedToo, bothInPairs};

@@ -12,7 +12,7 @@ use borrow.Author.Tests.{ne-eqb}
 use Rattle.space.specs.Lists.{select, count}
 use Rattle.space.proofs.Lists.{count-le}
 use Rattle.rows.specs.Rows.{rowCount, rowsOf, constraint}
-use Rattle.rows.specs.Make.{stray}
+use Rattle.rows.specs.Bytes.{stray}
 use Rattle.rows.proofs.Lists.{length-rowsOf}
 use Rattle.chosen.specs.Chosen.{chosen, within, enough}
 use Rattle.chosen.specs.Weight.{weight}

@@ -11,7 +11,7 @@ use borrow.Author.Tests.{eqb-true, eq-eqb, leb-true, leb-false, le-leb, lt-leb}
 use Rattle.space.specs.Lists.{Below, count}
 use Rattle.space.proofs.Both.{both}
 use Rattle.rows.specs.Rows.{shape, rowCount, rowsOf, constraint}
-use Rattle.rows.specs.Make.{stray}
+use Rattle.rows.specs.Bytes.{stray}
 use Rattle.reading.specs.Outcome.{wholeRows}
 use Rattle.chosen.specs.Chosen.{chosen, listed, within, enough, proper}
 

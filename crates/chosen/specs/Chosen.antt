@@ -7,7 +7,7 @@ use lib.Dec.{eqb, leb}
 use lib.ListN.{length}
 use Rattle.space.specs.Lists.{select, count}
 use Rattle.rows.specs.Rows.{shape, rowCount, rowsOf, constraint}
-use Rattle.rows.specs.Make.{stray}
+use Rattle.rows.specs.Bytes.{stray}
 use Rattle.reading.specs.Outcome.{wholeRows}
 
 -- "roles (0 not kept, 1 kept, 2 picked ..)": the rows whose role is 2.

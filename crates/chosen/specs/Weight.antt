@@ -3,7 +3,7 @@ use Prim.Native.Nat.{ℕ, _+_}
 use mathlib.Core.Bool.{cond}
 use mathlib.Core.List.{List, [], _∷_}
 use Rattle.rows.specs.Rows.{constraint}
-use Rattle.rows.specs.Make.{stray}
+use Rattle.rows.specs.Bytes.{stray}
 
 -- A row counts as one, and a stray one as 64 more, so that no page has as many symbols.
 unfoldable pub weight : ℕ → ℕ → List ℕ → ℕ

@@ -12,7 +12,7 @@ use Rattle.octets.specs.Octets.{flat, over, numbers}
 use Rattle.octets.proofs.Runs.{length-flat, numbers-flat, take-over, length-over}
 use Rattle.doubles.specs.Doubles.{pairsIn}
 use Rattle.rows.specs.Rows.{symbols, rowCount, entriesOf, rowsOf}
-use Rattle.rows.specs.Make.{cut}
+use Rattle.rows.specs.Bytes.{cut}
 use Rattle.rows.proofs.Lists.{length-entriesOf}
 use Rattle.rows.proofs.Shape.{shape-range}
 use Rattle.reading.specs.Reading.{rank, uses, pickedRows, pageOf, agreement, few, tie, singular}

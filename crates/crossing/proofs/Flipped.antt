@@ -17,7 +17,7 @@ use Rattle.octets.proofs.Xors.{length-xorBytes, xorBytes-append, xorBytes-zero}
 use Rattle.octets.proofs.Numbers.{length-bytes, number-lt, bytes-⊕, bytes-number}
 use Rattle.octets.proofs.Digits.{bytes-append, bytes-zero}
 use Rattle.rows.specs.Rows.{shape, symbols, rowBytes, named, made, entered}
-use Rattle.rows.specs.Make.{rowOf}
+use Rattle.rows.specs.Bytes.{rowOf}
 use Rattle.rows.proofs.Entries.{bytes-entered}
 use Rattle.rows.proofs.Shape.{shape-range}
 use Rattle.rows.proofs.Written.{rowOf-made, made-lt}

@@ -11,7 +11,7 @@ use Rattle.octets.specs.Octets.{number, bytes}
 use Rattle.octets.proofs.Numbers.{length-bytes}
 use Rattle.octets.proofs.Runs.{take-over}
 use Rattle.rows.specs.Rows.{shape, symbols, agrees}
-use Rattle.rows.specs.Make.{rowOf, entryOf}
+use Rattle.rows.specs.Bytes.{rowOf, entryOf}
 use Rattle.rows.proofs.Written.{rowOf-agrees}
 use Rattle.rows.proofs.Shape.{shape-range}
 use Rattle.draw.specs.Draw.{constraint}

@@ -5,7 +5,7 @@ ghost use Prim.Native.Nat.{_+_, _<_, _≤_};
 ghost use lib.ListN.{length};
 
 mod base;
-mod making;
+mod makes;
 mod print;
 
 use base::BASES;
@@ -129,7 +129,7 @@ fn lines(k: usize, table: u8) {
     match table {
         0 => readings(k),
         1 => layings(k),
-        _ => making::rows(k),
+        _ => makes::rows(k),
     }
 }
 

@@ -4,8 +4,8 @@ ghost use lib.ListN.{length};
 use crate::base::Base;
 use frame::Numbers;
 use libc::STDOUT_FILENO;
+use making::Made;
 use places::Arrival;
-use rows::Made;
 
 // Three of the longest rows, and five bytes.
 const LIST: usize = 137;
@@ -98,7 +98,7 @@ fn number_of(answer: Made) -> u64 {
 fn making_in(room: &mut [u8], n: u8, l: u8, seed: u32, constraint: u64, page: &[u8], size: usize)
     requires { ⌜ size ≤ length (now room) ⌝ }
 {
-    let answer = rows::make(n, l, seed, constraint, page, &mut room[0..size]);
+    let answer = making::make(n, l, seed, constraint, page, &mut room[0..size]);
     number(number_of(answer));
     bytes(&room[0..size]);
 }

@@ -37,7 +37,7 @@ fn put_entry(entry: &mut [u8], seed: u32, constraint: u64, payload: &[u8])
     requires { ⌜ length (now entry) ≡ headBytes + length (now payload) ⌝ }
     ensures { λ _. ⌜ now (entry .exit) ≡ bytes seedBytes seed ++ (bytes 8 constraint ++ now (payload .entry)) ⌝ }
 {
-    rows::put_head(entry, seed, constraint);
+    making::put_head(entry, seed, constraint);
     octets::copy(&mut entry[rows::HEAD..], payload);
 }
 

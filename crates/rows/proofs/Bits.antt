@@ -21,7 +21,7 @@ use Rattle.octets.proofs.Xors.{addFront-whole, length-xorBytes, xorBytes-assoc,
 use Rattle.bits.specs.Bits.{lowest}
 use Rattle.bits.proofs.Bits.{Lowest, lowest-place, lowest-back}
 use Rattle.rows.specs.Rows.{symbols, named}
-use Rattle.rows.specs.Make.{cut}
+use Rattle.rows.specs.Bytes.{cut}
 use Rattle.rows.proofs.Pages.{length-symbols}
 
 -- ---- the bits of a constraint

@@ -5,6 +5,5 @@ pub mod Pages
 pub mod Shifts
 pub mod Shape
 pub mod Bits
-pub mod Making
 pub mod Written
 pub mod Settled

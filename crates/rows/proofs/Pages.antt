@@ -16,7 +16,7 @@ use Rattle.space.proofs.SumBy.{sumBy-⊕, sumBy-lt}
 use Rattle.octets.specs.Octets.{flat}
 use Rattle.octets.proofs.Runs.{length-numbers, numbers-small, flat-numbers}
 use Rattle.rows.specs.Rows.{symbols, constraint, payload, named, agrees, made}
-use Rattle.rows.specs.Make.{cut}
+use Rattle.rows.specs.Bytes.{cut}
 use Rattle.rows.proofs.Sums.{constraint-zero}
 
 pub length-symbols : (n l : ℕ) (page : List ℕ) → length (symbols n l page) ≡ n

@@ -1,6 +1,6 @@
 -- Each contract of this crate settles the answer and every lent byte.
 -- Assumes nothing.
-use mathlib.Core.Path.{_≡_, ap, ap₂}
+use mathlib.Core.Path.{_≡_, ap}
 use Rattle.octets.specs.Settles.{Settles}
 use Rattle.octets.proofs.Unique.{unique}
 use Rattle.rows.proofs.shaped.Kinds as shaped
@@ -9,12 +9,6 @@ use Rattle.rows.proofs.strays.Kinds as strays
 use Rattle.rows.proofs.strays.Reads as strays-contract
 use Rattle.rows.proofs.stride.Kinds as stride
 use Rattle.rows.proofs.stride.Reads as stride-contract
-use Rattle.rows.proofs.make.Kinds as make
-use Rattle.rows.proofs.make.Reads as make-contract
-use Rattle.rows.proofs.put_head.Kinds as put-head
-use Rattle.rows.proofs.put_head.Reads as put-head-contract
-use Rattle.rows.proofs.sum.Kinds as sum
-use Rattle.rows.proofs.sum.Reads as sum-contract
 
 pub stride-settled : Settles stride.ps stride.r stride-contract.Post
 stride-settled κs args = unique (λ o is. ap (λ answer. (answer, (tt, tt))) is)
@@ -28,12 +22,3 @@ shaped-settled κs args = unique (λ o is. answer-only is)
 
 pub strays-settled : Settles strays.ps strays.r strays-contract.Post
 strays-settled κs args = unique (λ o is. answer-only is)
-
-pub make-settled : Settles make.ps make.r make-contract.Post
-make-settled κs args = unique (λ o is. ap₂ (λ answer room. (answer, (tt, (tt, (tt, (tt, (tt, (room, tt)))))))) (is .0) (is .1))
-
-pub sum-settled : Settles sum.ps sum.r sum-contract.Post
-sum-settled κs args = unique (λ o is. ap (λ into. (tt, (into, (tt, (tt, tt))))) is)
-
-pub put-head-settled : Settles put-head.ps put-head.r put-head-contract.Post
-put-head-settled κs args = unique (λ o is. ap (λ room. (tt, (room, (tt, (tt, tt))))) is)

@@ -12,7 +12,7 @@ use Rattle.octets.specs.Octets.{number, bytes}
 use Rattle.octets.proofs.Numbers.{length-bytes, number-bytes, bytes-mod}
 use Rattle.octets.proofs.Digits.{bytes-append}
 use Rattle.rows.specs.Rows.{symbols, rowBytes, listRowBytes, entered, constraint, payload, named, agrees, made}
-use Rattle.rows.specs.Make.{rowOf, entryOf, cut, bytesAgree}
+use Rattle.rows.specs.Bytes.{rowOf, entryOf, cut, bytesAgree}
 use Rattle.rows.proofs.Entries.{bytes-entered}
 use Rattle.rows.proofs.Sums.{row-lt}
 use Rattle.rows.proofs.Pages.{symbols-small, cut-symbols, made-constraint, made-payload, made-agrees}

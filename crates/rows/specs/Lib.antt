@@ -1,4 +1,4 @@
 pub mod Rows
 pub mod Range
-pub mod Make
+pub mod Bytes
 pub mod Shift

@@ -8,7 +8,7 @@ use lib.ListN.{length}
 use borrow.Author.Tests.{lt-ltb, le-ltb, eq-eqb, ne-eqb}
 use Rattle.octets.specs.Octets.{bytes}
 use Rattle.rows.specs.Rows.{shape, named}
-use Rattle.rows.specs.Make.{cut}
+use Rattle.rows.specs.Bytes.{cut}
 use Rattle.rows.proofs.Pages.{cut-symbols}
 use Rattle.writing.specs.declared.Written.the-variants.{Done, Shape, Length, Room}
 use Rattle.frame.specs.Layout.{frameLength}

@@ -19,7 +19,7 @@ use Rattle.octets.proofs.Digits.{number-front, number-back}
 use Rattle.words.specs.Words.{wordAt}
 use Rattle.words.proofs.Words.{word-inside}
 use Rattle.rows.specs.Rows.{rowBytes, constraint, payload, named, agrees}
-use Rattle.rows.specs.Make.{cut, bytesAgree}
+use Rattle.rows.specs.Bytes.{cut, bytesAgree}
 use Rattle.rows.proofs.Bits.{named-cut}
 use Rattle.rows.proofs.Written.{bytesAgree-row}
 use Rattle.agree.proofs.agrees.Statement.{statement}

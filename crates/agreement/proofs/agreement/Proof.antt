@@ -8,7 +8,7 @@ use borrow.Author.Needs.{needs}
 use Rattle.space.proofs.Counting.{Counting, counting-start, counting-more, counting-end}
 use Rattle.doubles.specs.Doubles.{pairsIn}
 use Rattle.doubles.proofs.Doubles.{length-pairs}
-use Rattle.rows.specs.Make.{bytesAgree}
+use Rattle.rows.specs.Bytes.{bytesAgree}
 use Rattle.lists.specs.Lists.{rowAt}
 use Rattle.agreement.specs.Agreement.{agreementOf}
 use Rattle.agreement.proofs.agreement.Statement.{statement}

@@ -6,7 +6,7 @@ use lib.ListN.{length, take}
 use lib.Seq.{length-take-le}
 use Rattle.octets.proofs.Runs.{known-below}
 use Rattle.rows.specs.Rows.{entriesOf}
-use Rattle.rows.specs.Make.{cut}
+use Rattle.rows.specs.Bytes.{cut}
 use Rattle.rows.proofs.Shape.{shape-range}
 use Rattle.reading.specs.Outcome.{Lent}
 use Rattle.reading.proofs.Checks.{Passed, passed, rows-most}

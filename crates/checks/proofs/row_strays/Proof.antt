@@ -5,7 +5,7 @@ use Prim.Native.Nat.{ℕ, _^_}
 use borrow.Author.Needs.{needs}
 use lib.Dec.{leb}
 use Rattle.octets.proofs.Runs.{known-below}
-use Rattle.rows.specs.Make.{stray}
+use Rattle.rows.specs.Bytes.{stray}
 use Rattle.checks.proofs.Straying.{constraint-word}
 use Rattle.checks.proofs.row_strays.Statement.{statement}
 use Rattle.checks.proofs.row_strays.Tie as tie

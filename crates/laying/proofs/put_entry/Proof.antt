@@ -11,8 +11,8 @@ use borrow.Author.Needs.{needs}
 use Rattle.octets.specs.Octets.{bytes, over}
 use Rattle.octets.proofs.Lay.{over-all}
 use Rattle.octets.proofs.Parts.{rest-long, rest-is}
-use Rattle.rows.specs.Make.{headOf}
-use Rattle.rows.proofs.Making.{length-headOf, headed-over}
+use Rattle.making.specs.Making.{headOf}
+use Rattle.making.proofs.Making.{length-headOf, headed-over}
 use Rattle.laying.proofs.put_entry.Statement.{statement}
 use Rattle.laying.proofs.put_entry.Tie as tie
 

@@ -7,7 +7,7 @@ use lib.Dec.{leb}
 use lib.Pow.{pow-mono}
 use borrow.Author.Tests.{lt-leb}
 use Rattle.octets.proofs.Digits.{one-shl}
-use Rattle.rows.specs.Make.{stray}
+use Rattle.rows.specs.Bytes.{stray}
 use Rattle.rows.proofs.strays.Statement.{statement}
 use Rattle.rows.proofs.strays.Tie as tie
 

@@ -15,12 +15,13 @@ use Rattle.octets.proofs.Numbers.{length-bytes}
 use Rattle.octets.proofs.Runs.{length-over}
 use Rattle.octets.proofs.Lay.{lay-over, over-back}
 use Rattle.octets.proofs.Parts.{back, part-long}
-use Rattle.rows.specs.declared.Made.{Made}
-use Rattle.rows.specs.declared.Made.the-variants.{Row, Shape, Stray, Room, Length}
+use Rattle.making.specs.declared.Made.{Made}
+use Rattle.making.specs.declared.Made.the-variants.{Row, Shape, Stray, Room, Length}
 use Rattle.rows.specs.Rows.{shape, symbols, listRowBytes, named}
-use Rattle.rows.specs.Make.{numberOf, stray, makeAnswer, rowOf, entryOf, makeRoom, headOf, headed, cut}
+use Rattle.rows.specs.Bytes.{stray, rowOf, entryOf, cut}
+use Rattle.making.specs.Making.{numberOf, makeAnswer, makeRoom, headOf, headed}
 use Rattle.rows.proofs.Shape.{shape-range}
 use Rattle.rows.proofs.Pages.{cut-symbols}
 
 -- ---- the answer
 

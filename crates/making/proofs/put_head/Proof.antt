@@ -1,4 +1,4 @@
--- `rows::put_head` meets its contract: the seed goes over the first 4 bytes of the room and the constraint over the 8 behind them.
+-- `making::put_head` meets its contract: the seed goes over the first 4 bytes of the room and the constraint over the 8 behind them.
 -- Assumes nothing.
 use mathlib.Core.Path.{_≡_, sym}
 use Prim.Native.Nat.{_≤_}
@@ -7,9 +7,9 @@ use lib.ListN.{length}
 use lib.Seq.{length-take-le}
 use denote.Ref.{now}
 use borrow.Author.Needs.{needs}
-use Rattle.rows.proofs.Making.{headed-none, headed-written}
-use Rattle.rows.proofs.put_head.Statement.{statement}
-use Rattle.rows.proofs.put_head.Tie as tie
+use Rattle.making.proofs.Making.{headed-none, headed-written}
+use Rattle.making.proofs.put_head.Statement.{statement}
+use Rattle.making.proofs.put_head.Tie as tie
 
 returns : tie.Need-returns
 returns c =

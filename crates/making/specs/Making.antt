@@ -1,13 +1,14 @@
--- Rows in bytes: making one from a page and a constraint (document 01, "The frame"), and whether one agrees with a page.
-use Prim.Native.Nat.{ℕ, _-_, _*_, _/_, _^_}
-use mathlib.Core.Bool.{Bool, cond, not, _&&_}
+-- Making a row from a page and a constraint: document 01, "The frame", and document 02, wish 3.
+use Prim.Native.Nat.{ℕ, _*_}
+use mathlib.Core.Bool.{cond, not}
 use mathlib.Core.List.{List, _++_}
 use lib.Dec.{eqb, leb, ltb}
 use lib.ListN.{length}
-use Rattle.octets.specs.Octets.{number, bytes, over}
-use Rattle.rows.specs.declared.Made.{Made}
-use Rattle.rows.specs.declared.Made.the-variants.{Row, Shape, Stray, Room, Length}
-use Rattle.rows.specs.Rows.{shape, symbols, seedBytes, headBytes, listRowBytes, named, agrees}
+use Rattle.octets.specs.Octets.{bytes, over}
+use Rattle.rows.specs.Rows.{shape, seedBytes, headBytes, listRowBytes}
+use Rattle.rows.specs.Bytes.{stray, entryOf}
+use Rattle.making.specs.declared.Made.{Made}
+use Rattle.making.specs.declared.Made.the-variants.{Row, Shape, Stray, Room, Length}
 
 -- "return a number (0 when done)":
 unfoldable pub numberOf : Made → ℕ
@@ -21,10 +22,6 @@ numberOf Length = 8
 unfoldable pub placeOf : Made → ℕ
 placeOf answer = 0
 
--- "a constraint bit worth 2^n or more".
-unfoldable pub stray : ℕ → ℕ → Bool
-stray n c = leb (2 ^ n) c
-
 -- "8, page length other than nL"; "Making a row from a constraint has the same order: 1; 8; 4 stray; 3, room under 8+L", which document 02, wish 3,
 -- makes 12+L. The page and the room count by their lengths.
 unfoldable pub makeAnswer : ℕ → ℕ → ℕ → ℕ → ℕ → Made
@@ -34,14 +31,6 @@ makeAnswer n l c page room =
     (cond (stray n c) Stray
     (cond (ltb room (listRowBytes l)) Room
     Row)))
-
--- The bytes of a row: "the constraint as a big-endian 64-bit number, .. then the payload."
-unfoldable pub rowOf : ℕ → ℕ → ℕ → List ℕ → List ℕ
-rowOf n l c page = bytes 8 c ++ bytes l (named (symbols n l page) c)
-
--- The bytes of an entry: "the 4-byte seed in front".
-unfoldable pub entryOf : ℕ → ℕ → ℕ → ℕ → List ℕ → List ℕ
-entryOf n l seed c page = bytes seedBytes seed ++ rowOf n l c page
 
 -- "Success writes exactly the first" 12+L bytes. "Refused, they write nothing."
 unfoldable pub makeRoom : ℕ → ℕ → ℕ → ℕ → List ℕ → List ℕ → List ℕ
@@ -53,12 +42,3 @@ headOf seed c = bytes seedBytes seed ++ bytes 8 c
 
 unfoldable pub headed : ℕ → ℕ → List ℕ → List ℕ
 headed seed c room = cond (leb headBytes (length room)) (over (headOf seed c) room) room
-
--- The page cut into as many symbols of l bytes as it has.
-abbrev pub cut : ℕ → List ℕ → List ℕ
-cut l page = symbols (length page / l) l page
-
--- Whether a row of 8+L bytes, 9 to 40, agrees with a page; no other bytes do.
-unfoldable pub bytesAgree : List ℕ → List ℕ → Bool
-bytesAgree page row =
-    (leb 9 (length row) && leb (length row) 40) && agrees (length row - 8) (cut (length row - 8) page) (number row)

@@ -1,4 +1,4 @@
--- `rows::answer` meets its contract: the tests stand in 01's order, and one law gives the answer behind each.
+-- `making::answer` meets its contract: the tests stand in 01's order, and one law gives the answer behind each.
 -- Assumes nothing.
 use mathlib.Core.Path.{_≡_, sym, _∙_}
 use mathlib.Core.Bool.{true}
@@ -7,10 +7,10 @@ use native.Mathlib.Nat.{mul-le-mul}
 use native.Mathlib.Omega.{arith}
 use borrow.Author.Needs.{needs}
 use borrow.Author.Tests.{not-true, not-false}
 use Rattle.rows.specs.Rows.{shape}
-use Rattle.rows.proofs.Making.{answer-shape, answer-length, answer-stray, answer-room, answer-row}
-use Rattle.rows.proofs.answer.Statement.{statement}
-use Rattle.rows.proofs.answer.Tie as tie
+use Rattle.making.proofs.Making.{answer-shape, answer-length, answer-stray, answer-room, answer-row}
+use Rattle.making.proofs.answer.Statement.{statement}
+use Rattle.making.proofs.answer.Tie as tie
 
 shaped-requires : tie.Need-shaped-requires
 shaped-requires c κs = tt

@@ -1,4 +1,4 @@
--- `rows::make` meets its contract: the head goes over the first 12 bytes of the room and the sum right behind them, and a refusal goes back as it came.
+-- `making::make` meets its contract: the head goes over the first 12 bytes of the room and the sum right behind them, and a refusal goes back as it came.
 -- Assumes nothing.
 use mathlib.Core.Path.{_≡_, sym, _∙_}
 use mathlib.Core.List.{[], _∷_}
@@ -9,13 +9,13 @@ use lib.Seq.{length-take-le}
 use denote.Ref.{now}
 use borrow.Author.Needs.{needs}
 use types.Run.{miss}
-use Rattle.rows.specs.declared.Made.{Made}
-use Rattle.rows.specs.declared.Made.the-variants.{Row}
+use Rattle.making.specs.declared.Made.{Made}
+use Rattle.making.specs.declared.Made.the-variants.{Row}
 use Rattle.rows.specs.Rows.{listRowBytes}
-use Rattle.rows.specs.Make.{makeAnswer}
-use Rattle.rows.proofs.Making.{row-makes, room-refused, room-written}
-use Rattle.rows.proofs.make.Statement.{statement}
-use Rattle.rows.proofs.make.Tie as tie
+use Rattle.making.specs.Making.{makeAnswer}
+use Rattle.making.proofs.Making.{row-makes, room-refused, room-written}
+use Rattle.making.proofs.make.Statement.{statement}
+use Rattle.making.proofs.make.Tie as tie
 
 abbrev said : tie.Start → Made
 said s = makeAnswer (s .args .n) (s .args .l) (s .args .constraint) (length (now (s .args .page))) (length (now (s .args .room)))
