@@ -17,7 +17,7 @@ use Rattle.basis.specs.Algorithm2.{Pass}
 use Rattle.tally.specs.Tally.{mostKept}
 use Rattle.state.specs.Layout.{orderAt, stateBytes, orderIn}
 use Rattle.state.specs.Written.{emptied}
-use Rattle.keeping.specs.Keeping.{headOf, placedState, rowKept, keeps, keptState, rowCounted, counts, countedState}
+use Rattle.keeping.specs.Keeping.{headOf, placedState, rowKept, keeps, keptState, rowCounted, tallies, countedState}
 use Rattle.absorb.specs.declared.Absorbed.the-variants.{Misfit}
 use Rattle.absorb.specs.Absorbing.{Absorption, absorbedAs, passIn, taken, takes, absorption}
 use Rattle.echelon.specs.Eliminating.{Elimination, Eliminating, oneMore, absorbIn, eliminates, elimination}
@@ -50,7 +50,7 @@ kept-low t vector m r state b =
 counted-low : (tail : List ℕ) (m r : ℕ) (state : List ℕ) → Low state → Low (countedState tail m r state)
 unfolding countedState rowCounted
 counted-low tail m r state b =
-    either Low (counts (length tail) m r (length state)) _ state (lay-low _ _ _ (bytes-below 2 0) (lay-low _ _ _ (flat-below 2 _) b)) b
+    either Low (tallies (length tail) m r (length state)) _ state (lay-low _ _ _ (bytes-below 2 0) (lay-low _ _ _ (flat-below 2 _) b)) b
 
 absorbed-low : (key row m r : ℕ) (state : List ℕ) → Low state → Low (absorption key row m r state .state)
 unfolding absorption taken

@@ -13,7 +13,7 @@ use lib.Pow.{pow-pos}
 use lib.Seq.{getD-set-same, getD-set-other}
 use borrow.Author.Tests.{le-leb, lt-leb, eqb-true, eqb-false, eq-eqb}
 use Rattle.space.proofs.Both.{both, both-true}
-use Rattle.filter.specs.Filter.{filterBytes, byteOf, isSet, withSet, second, noted, note, noting, noteAnswer, noteFilter}
+use Rattle.filter.specs.Filter.{filterBytes, byteOf, isSet, withSet, secondBit, noted, note, noting, noteAnswer, noteFilter}
 
 -- ---- by the test that the code makes
 
@@ -32,7 +32,7 @@ length-with bit filter = length-set filter _ _
 
 pub length-note : (seed : ℕ) (filter : List ℕ) → length (note seed filter) ≡ length filter
 unfolding note
-length-note seed filter = length-with (second seed) (withSet seed filter) ∙ length-with seed filter
+length-note seed filter = length-with (secondBit seed) (withSet seed filter) ∙ length-with seed filter
 
 pub length-noting : (seeds filter : List ℕ) → length (noting seeds filter) ≡ length filter
 unfolding noting
@@ -93,17 +93,17 @@ module _ (seed : ℕ) (filter : List ℕ) (h : filterBytes ≤ length filter) wh
   pub noted-note : noted seed (note seed filter) ≡ true
   unfolding noted note
   noted-note =
-      both-true _ _ (set-stays seed (withSet seed filter) (more seed) (second seed) (set-then seed filter h))
-      (set-then (second seed) (withSet seed filter) (more seed))
+      both-true _ _ (set-stays seed (withSet seed filter) (more seed) (secondBit seed) (set-then seed filter h))
+      (set-then (secondBit seed) (withSet seed filter) (more seed))
 
   pub noted-stays : (other : ℕ) → noted seed filter ≡ true → noted seed (note other filter) ≡ true
   unfolding noted note
   noted-stays other was =
-      let w : (isSet seed filter ≡ true) × (isSet (second seed) filter ≡ true) = both _ _ was in
-      both-true _ _ (stays seed (w .0)) (stays (second seed) (w .1))
+      let w : (isSet seed filter ≡ true) × (isSet (secondBit seed) filter ≡ true) = both _ _ was in
+      both-true _ _ (stays seed (w .0)) (stays (secondBit seed) (w .1))
     where
-      stays : (bit : ℕ) → isSet bit filter ≡ true → isSet bit (withSet (second other) (withSet other filter)) ≡ true
-      stays bit is = set-stays bit (withSet other filter) (more other) (second other) (set-stays bit filter h other is)
+      stays : (bit : ℕ) → isSet bit filter ≡ true → isSet bit (withSet (secondBit other) (withSet other filter)) ≡ true
+      stays bit is = set-stays bit (withSet other filter) (more other) (secondBit other) (set-stays bit filter h other is)
 
 pub noted-later : (seeds filter : List ℕ) (seed : ℕ) → filterBytes ≤ length filter → noted seed filter ≡ true → noted seed (noting seeds filter) ≡ true
 unfolding noting

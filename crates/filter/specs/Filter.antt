@@ -26,16 +26,16 @@ withSet bit filter = set filter (byteOf bit) (bitOr (getD filter (byteOf bit) 0)
 -- ---- seeds
 
 -- The number of a seed's second bit; the first has the seed's own.
-unfoldable pub second : ℕ → ℕ
-second seed = seed / 8192
+unfoldable pub secondBit : ℕ → ℕ
+secondBit seed = seed / 8192
 
 -- Whether a seed was noted, or others that have its bits.
 unfoldable pub noted : ℕ → List ℕ → Bool
-noted seed filter = isSet seed filter && isSet (second seed) filter
+noted seed filter = isSet seed filter && isSet (secondBit seed) filter
 
 -- The filter with a seed noted; and with several.
 unfoldable pub note : ℕ → List ℕ → List ℕ
-note seed filter = withSet (second seed) (withSet seed filter)
+note seed filter = withSet (secondBit seed) (withSet seed filter)
 
 unfoldable pub noting : List ℕ → List ℕ → List ℕ
 noting [] filter = filter

@@ -31,8 +31,8 @@ every-marked (true ∷ bs) h = ap suc (every-marked bs (h .1))
 every-marked (false ∷ bs) h = absurd (false≢true (h .0))
 
 module _ (l : ℕ) (entries : List ℕ) (each : All (λ c. c) (counts entries)) where
-  pub all-counted : marked (counts entries) ≡ length entries
-  all-counted = every-marked (counts entries) each ∙ length-counts entries
+  pub once-counted : marked (counts entries) ≡ length entries
+  once-counted = every-marked (counts entries) each ∙ length-counts entries
 
   pub once-taken : taken l entries (inListOrder entries) ≡ map (vector l) entries
   once-taken = taken-listed l entries ∙ select-each (counts entries) each (map (vector l) entries) (length-counts entries ∙ sym (length-map entries (vector l)))

@@ -58,9 +58,9 @@ pub record CountRoom (tail m r room : ℕ) : Type 0 where
   pub rank : r ≤ mostKept
   pub whole : stateBytes ≤ room
 
-unfoldable pub counts : ℕ → ℕ → ℕ → ℕ → Bool
-counts tail m r room = eqb tail tailBytes && (ltb m mostRows && (leb r mostKept && leb stateBytes room))
+unfoldable pub tallies : ℕ → ℕ → ℕ → ℕ → Bool
+tallies tail m r room = eqb tail tailBytes && (ltb m mostRows && (leb r mostKept && leb stateBytes room))
 
 -- Nothing is written where they do not fit.
 unfoldable pub countedState : List ℕ → ℕ → ℕ → List ℕ → List ℕ
-countedState tail m r state = cond (counts (length tail) m r (length state)) (rowCounted (number tail) m r state) state
+countedState tail m r state = cond (tallies (length tail) m r (length state)) (rowCounted (number tail) m r state) state

@@ -5,7 +5,7 @@ ghost use mathlib.Core.Bool.{true};
 ghost use mathlib.Core.List.{_++_};
 ghost use lib.ListN.{length};
 ghost use Rattle.octets.specs.Octets.{bytes};
-ghost use Rattle.rows.specs.Rows.{shape, seedBytes, headBytes, listRowBytes};
+ghost use Rattle.rows.specs.Rows.{shape, seedBytes, entryHeadBytes, listRowBytes};
 ghost use Rattle.draw.specs.Draw.{constraint};
 ghost use Rattle.frame.specs.Numbers.{payloadOf};
 ghost use Rattle.laying.specs.Laying.{placing, laid, frameEntry, listAfter, toldBy};
@@ -34,7 +34,7 @@ const LAST_ARRIVAL: usize = 511;
 
 // "the 4-byte seed in front", then "the constraint as a big-endian 64-bit number, .. then the payload."
 fn put_entry(entry: &mut [u8], seed: u32, constraint: u64, payload: &[u8])
-    requires { ⌜ length (now entry) ≡ headBytes + length (now payload) ⌝ }
+    requires { ⌜ length (now entry) ≡ entryHeadBytes + length (now payload) ⌝ }
     ensures { λ _. ⌜ now (entry .exit) ≡ bytes seedBytes seed ++ (bytes 8 constraint ++ now (payload .entry)) ⌝ }
 {
     making::put_head(entry, seed, constraint);

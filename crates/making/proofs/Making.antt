@@ -19,7 +19,7 @@ use Rattle.making.specs.declared.Made.{Made}
 use Rattle.making.specs.declared.Made.the-variants.{Row, Shape, Stray, Room, Length}
 use Rattle.rows.specs.Rows.{shape, symbols, listRowBytes, named}
 use Rattle.rows.specs.Bytes.{stray, rowOf, entryOf, cut}
-use Rattle.making.specs.Making.{numberOf, makeAnswer, makeRoom, headOf, headed}
+use Rattle.making.specs.Making.{numberOf, makeAnswer, makeRoom, entryHead, headed}
 use Rattle.rows.proofs.Shape.{shape-range}
 use Rattle.rows.proofs.Pages.{cut-symbols}
 
@@ -71,23 +71,23 @@ module _ (n l c page room : ℕ) where
 
 -- ---- the head of an entry
 
-pub length-headOf : (seed c : ℕ) → length (headOf seed c) ≡ 12
-unfolding headOf
-length-headOf seed c = length-append (bytes 4 seed) (bytes 8 c) ∙ ap₂ (λ (a b : ℕ). a + b) (length-bytes 4 seed) (length-bytes 8 c)
+pub length-entryHead : (seed c : ℕ) → length (entryHead seed c) ≡ 12
+unfolding entryHead
+length-entryHead seed c = length-append (bytes 4 seed) (bytes 8 c) ∙ ap₂ (λ (a b : ℕ). a + b) (length-bytes 4 seed) (length-bytes 8 c)
 
 module _ (seed c : ℕ) (room : List ℕ) where
   pub headed-none : length room < 12 → headed seed c room ≡ room
   unfolding headed
   headed-none h = rw (lt-leb 12 (length room) h)
 
-  pub headed-over : 12 ≤ length room → headed seed c room ≡ over (headOf seed c) room
+  pub headed-over : 12 ≤ length room → headed seed c room ≡ over (entryHead seed c) room
   unfolding headed
   headed-over h = rw (le-leb 12 (length room) h)
 
   -- Its two parts as they come back are the head.
   pub headed-written : 12 ≤ length room → (first second : List ℕ) → first ≡ bytes (length (take 4 room)) seed
       → second ≡ bytes (length (take 8 (drop 4 (first ++ drop 4 room)))) c → putMid 4 8 (first ++ drop 4 room) second ≡ headed seed c room
-  unfolding headOf
+  unfolding entryHead
   headed-written h first second ef es =
       let is : first ≡ bytes 4 seed = ef ∙ ap (λ (k : ℕ). bytes k seed) (length-take-le 4 room (omega arith)) in
       let begun : first ++ drop 4 room ≡ over (bytes 4 seed) room = over-back 4 first room (ap length is ∙ length-bytes 4 seed) ∙ ap (λ (t : List ℕ). over t room) is in
@@ -121,23 +121,23 @@ module _ (n l seed c : ℕ) (page room : List ℕ) where
     makes : Makes n l c (length page) (length room)
     makes = row-makes n l c (length page) (length room) row
 
-    head : begun ≡ over (headOf seed c) room
+    head : begun ≡ over (entryHead seed c) room
     head = eb ∙ headed-over seed c room (omega (arith, makes .roomy))
 
     size : length (take (end - 12) (drop 12 begun)) ≡ l
     size =
-        let front : length (headOf seed c) ≤ length room = omega (arith, makes .roomy, length-headOf seed c) in
-        let within : end ≤ length begun = omega (arith, ap length head ∙ length-over (headOf seed c) room front, makes .roomy) in
+        let front : length (entryHead seed c) ≤ length room = omega (arith, makes .roomy, length-entryHead seed c) in
+        let within : end ≤ length begun = omega (arith, ap length head ∙ length-over (entryHead seed c) room front, makes .roomy) in
         mid-len 12 end begun within ∙ omega arith
 
     pub room-written : (tail : List ℕ) → tail ≡ bytes (length (take (end - 12) (drop 12 begun))) (named (cut (length (take (end - 12) (drop 12 begun))) page) c)
         → putMid 12 (end - 12) begun tail ≡ makeRoom n l seed c page room
-    unfolding headOf entryOf rowOf
+    unfolding entryHead entryOf rowOf
     room-written tail et =
         let whole : cut l page ≡ symbols n l page = cut-symbols n l page (shape-range n l (makes .shaped) .l-low) (makes .sized) in
         let is : tail ≡ bytes l (named (symbols n l page) c) = rw (size, whole) at et in
         let long : length tail ≡ end - 12 = ap length is ∙ length-bytes l (named (symbols n l page) c) ∙ omega arith in
         back 12 (end - 12) tail begun long
-        ∙ rw (head, is) (lay-over 12 (headOf seed c) (bytes l (named (symbols n l page) c)) room (length-headOf seed c))
+        ∙ rw (head, is) (lay-over 12 (entryHead seed c) (bytes l (named (symbols n l page) c)) room (length-entryHead seed c))
         ∙ ap (λ (entry : List ℕ). over entry room) (append-assoc (bytes 4 seed) (bytes 8 c) (bytes l (named (symbols n l page) c)))
         ∙ sym (room-made row)

@@ -5,7 +5,7 @@ use mathlib.Core.List.{List, _++_}
 use lib.Dec.{eqb, leb, ltb}
 use lib.ListN.{length}
 use Rattle.octets.specs.Octets.{bytes, over}
-use Rattle.rows.specs.Rows.{shape, seedBytes, headBytes, listRowBytes}
+use Rattle.rows.specs.Rows.{shape, seedBytes, entryHeadBytes, listRowBytes}
 use Rattle.rows.specs.Bytes.{stray, entryOf}
 use Rattle.making.specs.declared.Made.{Made}
 use Rattle.making.specs.declared.Made.the-variants.{Row, Shape, Stray, Room, Length}
@@ -37,8 +37,8 @@ unfoldable pub makeRoom : ℕ → ℕ → ℕ → ℕ → List ℕ → List ℕ 
 makeRoom n l seed c page room = cond (eqb (numberOf (makeAnswer n l c (length page) (length room))) 0) (over (entryOf n l seed c page) room) room
 
 -- What stands before the payload in an entry, seed and constraint; and a room with them over its first bytes, which stays where it has fewer.
-unfoldable pub headOf : ℕ → ℕ → List ℕ
-headOf seed c = bytes seedBytes seed ++ bytes 8 c
+unfoldable pub entryHead : ℕ → ℕ → List ℕ
+entryHead seed c = bytes seedBytes seed ++ bytes 8 c
 
 unfoldable pub headed : ℕ → ℕ → List ℕ → List ℕ
-headed seed c room = cond (leb headBytes (length room)) (over (headOf seed c) room) room
+headed seed c room = cond (leb entryHeadBytes (length room)) (over (entryHead seed c) room) room

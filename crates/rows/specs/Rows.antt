@@ -29,8 +29,8 @@ abbrev pub listRowBytes : ℕ → ℕ
 listRowBytes l = seedBytes + rowBytes l
 
 -- The bytes before the payload in an entry.
-abbrev pub headBytes : ℕ
-headBytes = 12
+abbrev pub entryHeadBytes : ℕ
+entryHeadBytes = seedBytes + 8
 
 unfoldable pub rowCount : ℕ → List ℕ → ℕ
 rowCount l list = length list / listRowBytes l

@@ -105,7 +105,7 @@ pub fn note(state: &mut [u8], seed: u32) -> bool
     filter::note(&mut state[FILTER..BYTES], seed)
 }
 
-// ---- the slots
+// ---- no rows
 
 // Makes the state empty; the order and the filter stay.
 pub fn clear(state: &mut [u8])

@@ -19,7 +19,7 @@ use Rattle.basis.specs.Algorithm2.{digits}
 use Rattle.tally.specs.Tally.{mostKept, tailBytes}
 use Rattle.tally.proofs.Uses.{length-raised}
 use Rattle.state.specs.Layout.{usesAt, placesAt, headsAt, orderAt, stateBytes, slotsIn, usesIn, placesIn, orderIn}
-use Rattle.keeping.specs.Keeping.{CountRoom, rowCounted, counts, countedState}
+use Rattle.keeping.specs.Keeping.{CountRoom, rowCounted, tallies, countedState}
 use Rattle.state.proofs.Sizes.{sizes}
 use Rattle.keeping.proofs.Fits.{counted-is}
 use Rattle.views.proofs.Laid.{unless, slots-stay, pairs-before, pairs-behind, pairs-set, pairs-anew}
@@ -83,9 +83,9 @@ module _ (tail : List ℕ) (m r : ℕ) (state : List ℕ) (K : CountRoom (length
 -- ---- whether or not it fits
 
 module _ (tail : List ℕ) (m r : ℕ) (state : List ℕ) where
-  counts-so : counts (length tail) m r (length state) ≡ true → CountRoom (length tail) m r (length state)
-  unfolding counts
-  counts-so e =
+  tallies-so : tallies (length tail) m r (length state) ≡ true → CountRoom (length tail) m r (length state)
+  unfolding tallies
+  tallies-so e =
       let a : (eqb (length tail) tailBytes ≡ true) × ((ltb m 512 && (leb r mostKept && leb stateBytes (length state))) ≡ true) = both _ _ e in
       let b : (ltb m 512 ≡ true) × ((leb r mostKept && leb stateBytes (length state)) ≡ true) = both _ _ (a .1) in
       let d : (leb r mostKept ≡ true) × (leb stateBytes (length state) ≡ true) = both _ _ (b .1) in
@@ -98,8 +98,8 @@ module _ (tail : List ℕ) (m r : ℕ) (state : List ℕ) where
 
   pub counted-length : length (countedState tail m r state) ≡ length state
   unfolding countedState
-  counted-length = unless length (counts (length tail) m r (length state)) (rowCounted (number tail) m r state) state (λ e. row-long tail m r state (counts-so e))
+  counted-length = unless length (tallies (length tail) m r (length state)) (rowCounted (number tail) m r state) state (λ e. row-long tail m r state (tallies-so e))
 
   pub counted-order : (taken : ℕ) → orderIn taken (countedState tail m r state) ≡ orderIn taken state
   unfolding countedState
-  counted-order taken = unless (orderIn taken) (counts (length tail) m r (length state)) (rowCounted (number tail) m r state) state (λ e. row-order tail m r state (counts-so e) taken)
+  counted-order taken = unless (orderIn taken) (tallies (length tail) m r (length state)) (rowCounted (number tail) m r state) state (λ e. row-order tail m r state (tallies-so e) taken)

@@ -2,7 +2,7 @@
 -- Assumes nothing.
 use borrow.Author.Needs.{needs}
 use mathlib.Core.Path.{sym, _∙_}
-use Rattle.filter.specs.Filter.{second, noted}
+use Rattle.filter.specs.Filter.{secondBit, noted}
 use Rattle.filter.proofs.is_noted.Statement.{statement}
 use Rattle.filter.proofs.is_noted.Tie as tie
 
@@ -13,7 +13,7 @@ is-set-requires-2 : tie.Need-is-set-requires-2
 is-set-requires-2 c κs = search needs
 
 returns : tie.Need-returns
-unfolding second noted
+unfolding secondBit noted
 returns c = rw (sym (c .before .before .is-set .ensures) ∙ c .before .if1 .taken) (c .is-set2 .ensures)
 
 returns-2 : tie.Need-returns-2

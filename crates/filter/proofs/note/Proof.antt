@@ -4,7 +4,7 @@ use borrow.Author.Needs.{needs}
 use native.Mathlib.Omega.{arith}
 use mathlib.Core.Path.{sym, ap, _∙_}
 use Prim.Native.Nat.{_/_}
-use Rattle.filter.specs.Filter.{filterBytes, second, note, withSet}
+use Rattle.filter.specs.Filter.{filterBytes, secondBit, note, withSet}
 use Rattle.filter.proofs.Noted.{note-short, note-is}
 use Rattle.filter.proofs.note.Statement.{statement}
 use Rattle.filter.proofs.note.Tie as tie
@@ -29,7 +29,7 @@ same-length : tie.Need-same-length
 same-length c = search needs
 
 returns-2 : tie.Need-returns-2
-unfolding filterBytes second note
+unfolding filterBytes secondBit note
 returns-2 c =
     let set = c .before .before .before .before .before .before in
     let T = set .before .before .before .before in

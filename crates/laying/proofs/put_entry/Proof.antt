@@ -11,8 +11,8 @@ use borrow.Author.Needs.{needs}
 use Rattle.octets.specs.Octets.{bytes, over}
 use Rattle.octets.proofs.Lay.{over-all}
 use Rattle.octets.proofs.Parts.{rest-long, rest-is}
-use Rattle.making.specs.Making.{headOf}
-use Rattle.making.proofs.Making.{length-headOf, headed-over}
+use Rattle.making.specs.Making.{entryHead}
+use Rattle.making.proofs.Making.{length-entryHead, headed-over}
 use Rattle.laying.proofs.put_entry.Statement.{statement}
 use Rattle.laying.proofs.put_entry.Tie as tie
 
@@ -39,7 +39,7 @@ same-length : tie.Need-same-length
 same-length c = search needs
 
 returns : tie.Need-returns
-unfolding headOf
+unfolding entryHead
 returns c =
     let head = c .before .before .before .before .before .before in
     let a = head .before .before .before .before .args in
@@ -49,8 +49,8 @@ returns c =
     let copy = c .before .before .copy in
     let begun = head .put-head .last .0 in
     let left : length (take (length begun - 12) (drop 12 begun)) ≡ length payload =
-    rest-long 12 (headOf (a .seed) (a .constraint)) entry begun so-far (length-headOf (a .seed) (a .constraint)) (length payload) (sym (head .before .before .before .before .pre)) in
-    rest-is 12 (headOf (a .seed) (a .constraint)) entry begun so-far (length-headOf (a .seed) (a .constraint)) payload (copy .last .0)
+    rest-long 12 (entryHead (a .seed) (a .constraint)) entry begun so-far (length-entryHead (a .seed) (a .constraint)) (length payload) (sym (head .before .before .before .before .pre)) in
+    rest-is 12 (entryHead (a .seed) (a .constraint)) entry begun so-far (length-entryHead (a .seed) (a .constraint)) payload (copy .last .0)
     (copy .ensures ∙ copied (take (length begun - 12) (drop 12 begun)) payload left) (sym (head .before .before .before .before .pre))
     ∙ append-assoc (bytes 4 (a .seed)) (bytes 8 (a .constraint)) payload
 
