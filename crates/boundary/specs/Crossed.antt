@@ -1,24 +1,10 @@
 -- What crosses the boundary: numbers one by one, and buffers of bytes.
 use Prim.Native.Nat.{ℕ}
 use mathlib.Core.List.{List}
-use Rattle.frame.specs.declared.numbers.Numbers as frame
-use Rattle.laying.specs.declared.Told.{Told}
 use Rattle.reading.specs.declared.Numbers.{Numbers}
 use Rattle.reading.specs.Answer.{answerNumbers}
 use Rattle.reading.specs.Outcome.{Lent}
 use Rattle.reader.specs.Pairs.{inPairs}
-
--- ---- frames
-
--- The numbers of a reading of a frame, and of laying one, by their parts.
-abbrev pub framed : ℕ → ℕ → ℕ → ℕ → ℕ → ℕ → ℕ → frame.Numbers
-framed number place page n l seed offset =
-    record { number = number; place = place; page = page; n = n; l = l; seed = seed; offset = offset }
-
-abbrev pub told : ℕ → ℕ → Told
-told number place = record { number = number; place = place }
-
--- ---- lists
 
 -- The numbers of the answer go across, and the buffers.
 pub record Crossed : Type 0 where

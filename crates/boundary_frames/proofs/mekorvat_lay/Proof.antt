@@ -7,8 +7,8 @@ use Rattle.rows.specs.Rows.{listRowBytes}
 use Rattle.laying.specs.declared.Laid.{Laid}
 use Rattle.laying.specs.Laying.{toldBy, listAfter, frameEntry}
 use borrow.Author.Needs.{needs}
-use Rattle.boundary.proofs.mekorvat_lay.Statement.{statement}
-use Rattle.boundary.proofs.mekorvat_lay.Tie as tie
+use Rattle.boundary_frames.proofs.mekorvat_lay.Statement.{statement}
+use Rattle.boundary_frames.proofs.mekorvat_lay.Tie as tie
 
 lay-requires : tie.Need-lay-requires
 lay-requires c κs = search needs

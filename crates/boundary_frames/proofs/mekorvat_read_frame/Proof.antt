@@ -3,8 +3,8 @@
 use mathlib.Core.Path.{ap, _∙_}
 use Rattle.frame.specs.Numbers.{frameNumbers}
 use borrow.Author.Needs.{needs}
-use Rattle.boundary.proofs.mekorvat_read_frame.Statement.{statement}
-use Rattle.boundary.proofs.mekorvat_read_frame.Tie as tie
+use Rattle.boundary_frames.proofs.mekorvat_read_frame.Statement.{statement}
+use Rattle.boundary_frames.proofs.mekorvat_read_frame.Tie as tie
 
 read-requires : tie.Need-read-requires
 read-requires c κs = search needs
