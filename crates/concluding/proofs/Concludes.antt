@@ -32,7 +32,7 @@ use Rattle.choose.specs.declared.Choice.{Choice}
 use Rattle.choose.specs.declared.Choice.the-variants.{Few, Tie, Picked}
 use Rattle.choose.specs.Pick.{least, choiceOf}
 use Rattle.choose.proofs.Chosen.{choice-is}
-use Rattle.marks.specs.Mark.{roleBy}
+use Rattle.roles.specs.Role.{roleBy}
 use Rattle.agreement.specs.Agreement.{agreementOf}
 use Rattle.agreement.proofs.Taken.{agreement-taken}
 use Rattle.same_page.specs.SameRows.{SameRows}

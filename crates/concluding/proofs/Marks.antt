@@ -24,7 +24,8 @@ use Rattle.choose.specs.declared.Choice.{Choice}
 use Rattle.choose.specs.declared.Choice.the-variants.{Few, Tie, Picked}
 use Rattle.choose.specs.Pick.{nonePicked, choiceOf}
 use Rattle.choose.proofs.Chosen.{choice-says}
-use Rattle.marks.specs.Mark.{notKept, leastMarked, roleBy, role, usesOf, roleOf, usesMarked, rolesMarked, rolesAfter, usesAfter, pairsAfter}
+use Rattle.marks.specs.Mark.{notKept, usesOf, usesMarked, usesAfter, pairsAfter}
+use Rattle.roles.specs.Role.{leastMarked, roleBy, role, roleOf, rolesMarked, rolesAfter}
 use Rattle.concluding.proofs.Looked.{looked-up}
 
 -- no row has that many uses

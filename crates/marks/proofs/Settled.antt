@@ -3,15 +3,10 @@
 use mathlib.Core.Path.{ap}
 use Rattle.octets.specs.Settles.{Settles}
 use Rattle.octets.proofs.Unique.{unique}
-use Rattle.marks.proofs.put_roles.Kinds as put-roles
-use Rattle.marks.proofs.put_roles.Reads as put-roles-contract
 use Rattle.marks.proofs.put_uses.Kinds as put-uses
 use Rattle.marks.proofs.put_uses.Reads as put-uses-contract
 use Rattle.marks.proofs.put_pairs.Kinds as put-pairs
 use Rattle.marks.proofs.put_pairs.Reads as put-pairs-contract
-
-pub put-roles-settled : Settles put-roles.ps put-roles.r put-roles-contract.Post
-put-roles-settled κs args = unique (λ o is. ap (λ v. (tt, (tt, (tt, (tt, (v, tt)))))) is)
 
 pub put-uses-settled : Settles put-uses.ps put-uses.r put-uses-contract.Post
 put-uses-settled κs args = unique (λ o is. ap (λ v. (tt, (tt, (tt, (v, tt))))) is)

@@ -1,6 +1,6 @@
--- What is marked at each arrival number. Document 01, "Answer numbers of a reading".
+-- The uses at each arrival number. Document 01, "Answer numbers of a reading".
 use Prim.Native.Nat.{ℕ, _/_}
-use mathlib.Core.Bool.{Bool, cond}
+use mathlib.Core.Bool.{cond}
 use mathlib.Core.List.{List, map}
 use lib.Dec.{leb}
 use lib.ListN.{length}
@@ -9,10 +9,6 @@ use Rattle.doubles.specs.Doubles.{pairsIn, pairAt}
 use Rattle.places.specs.declared.Lookup.{Lookup}
 use Rattle.places.specs.declared.Lookup.the-variants.{Place, Nothing}
 use Rattle.places.specs.Places.{givenBy}
-use Rattle.reading.specs.Marks.{plain, telling}
-use Rattle.choose.specs.declared.Choice.{Choice}
-use Rattle.choose.specs.declared.Choice.the-variants.{Few, Tie, Picked}
-use Rattle.choose.specs.Pick.{nonePicked}
 
 -- ---- at one arrival number
 
@@ -20,31 +16,10 @@ use Rattle.choose.specs.Pick.{nonePicked}
 abbrev pub notKept : ℕ
 notKept = 65535
 
--- The fewest uses of a row that is marked as picked: "no 2 under 5 and 6".
-unfoldable pub leastMarked : Choice → ℕ
-leastMarked Few = nonePicked
-leastMarked Tie = nonePicked
-leastMarked (Picked least) = least
-
--- What the kept rows' roles tell of the pick, by what is chosen.
-abbrev pub roleBy : Choice → Bool → ℕ
-roleBy Few = plain
-roleBy Tie = plain
-roleBy (Picked least) = telling
-
--- "1 kept, 2 picked", where the picked have `least` uses or more.
-unfoldable pub role : ℕ → ℕ → ℕ
-role least u = cond (leb least u) 2 1
-
 -- The uses of a row whose arrival was given this, from the bytes that count them by kept place.
 unfoldable pub usesOf : List ℕ → Lookup → ℕ
 usesOf counts (Place place) = pairAt (place .0) counts
 usesOf counts Nothing = notKept
-
--- Its role.
-unfoldable pub roleOf : ℕ → List ℕ → Lookup → ℕ
-roleOf least counts (Place place) = role least (pairAt (place .0) counts)
-roleOf least counts Nothing = 0
 
 -- ---- at all of them
 
@@ -52,14 +27,7 @@ roleOf least counts Nothing = 0
 unfoldable pub usesMarked : List ℕ → List ℕ → List ℕ
 usesMarked places counts = map (λ x. usesOf counts (givenBy x)) (pairsIn places)
 
--- "the first m roles (0 not kept, 1 kept, 2 picked; ..)".
-unfoldable pub rolesMarked : ℕ → List ℕ → List ℕ → List ℕ
-rolesMarked least places counts = map (λ x. roleOf least counts (givenBy x)) (pairsIn places)
-
 -- ---- a buffer afterwards: marked where it has room for each row, and else as it was
-
-unfoldable pub rolesAfter : Choice → List ℕ → List ℕ → List ℕ → List ℕ
-rolesAfter choice places counts roles = cond (leb (length places / 2) (length roles)) (over (rolesMarked (leastMarked choice) places counts) roles) roles
 
 unfoldable pub usesAfter : List ℕ → List ℕ → List ℕ → List ℕ
 usesAfter places counts uses = cond (leb (length places / 2) (length uses)) (over (usesMarked places counts) uses) uses

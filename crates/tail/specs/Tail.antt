@@ -11,7 +11,7 @@ use Rattle.state.specs.Layout.{usesPart, placesPart, orderPart}
 use Rattle.choose.specs.declared.Choice.{Choice}
 use Rattle.choose.specs.declared.Choice.the-variants.{Few, Tie, Picked}
 use Rattle.choose.specs.Pick.{choiceOf}
-use Rattle.marks.specs.Mark.{rolesAfter}
+use Rattle.roles.specs.Role.{rolesAfter}
 use Rattle.agreement.specs.Agreement.{agreementOf}
 use Rattle.solve.specs.declared.Solved.{Solved}
 use Rattle.solve.specs.declared.Solved.the-variants as solved

@@ -67,7 +67,7 @@ pub fn finish(
 {
     let choice = choose::pick(n, state::uses(state, rank));
     let rows = lists::count(list.len(), l);
-    marks::put_roles(
+    roles::put_roles(
         state::places(state, rows),
         state::uses(state, rank),
         choice,

@@ -10,7 +10,7 @@ use Rattle.rows.specs.Rows.{rowCount}
 use Rattle.state.specs.Layout.{usesPart, placesPart}
 use Rattle.choose.specs.declared.Choice.{Choice}
 use Rattle.choose.specs.Pick.{choiceOf}
-use Rattle.marks.specs.Mark.{rolesAfter}
+use Rattle.roles.specs.Role.{rolesAfter}
 use Rattle.tail.specs.Tail.{choiceIn, rolesIn, finished, concluded}
 use native.Mathlib.Omega.{arith}
 use borrow.Author.Needs.{needs}

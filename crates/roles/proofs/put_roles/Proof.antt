@@ -1,4 +1,4 @@
--- `marks::put_roles` meets its contract: a loop that marks arrival by arrival, where there is room for each.
+-- `roles::put_roles` meets its contract: a loop that marks arrival by arrival, where there is room for each.
 -- Assumes nothing.
 use Prim.Native.Nat.{_-_, _/_}
 use lib.ListN.{length}
@@ -6,10 +6,10 @@ use borrow.Author.Needs.{needs}
 use borrow.Author.Tests.{le-leb, lt-leb}
 use native.Mathlib.Omega.{arith}
 use Rattle.places.specs.Places.{givenBy}
-use Rattle.marks.specs.Mark.{roleOf, rolesMarked, rolesAfter}
+use Rattle.roles.specs.Role.{roleOf, rolesMarked, rolesAfter}
 use Rattle.marks.proofs.Marking.{whole, Marking, marking-start, marking-inside, marking-more, marking-end}
-use Rattle.marks.proofs.put_roles.Statement.{statement}
-use Rattle.marks.proofs.put_roles.Tie as tie
+use Rattle.roles.proofs.put_roles.Statement.{statement}
+use Rattle.roles.proofs.put_roles.Tie as tie
 
 abbrev Inv-loop : tie.InvT-loop
 Inv-loop places counts roles₀ rows least arrival₀ roles arrival = Marking whole (λ x. roleOf least counts (givenBy x)) places roles₀ roles arrival

@@ -1,10 +1,10 @@
--- `marks::role` meets its contract, in each arm by the test that led there.
+-- `roles::role` meets its contract, in each arm by the test that led there.
 -- Assumes nothing.
 use native.Mathlib.Omega.{arith}
 use borrow.Author.Tests.{le-leb, lt-leb}
-use Rattle.marks.specs.Mark.{role}
-use Rattle.marks.proofs.role.Statement.{statement}
-use Rattle.marks.proofs.role.Tie as tie
+use Rattle.roles.specs.Role.{role}
+use Rattle.roles.proofs.role.Statement.{statement}
+use Rattle.roles.proofs.role.Tie as tie
 
 returns : tie.Need-returns
 unfolding role

@@ -1,10 +1,10 @@
--- `marks::role_at` meets its contract, by what the arrival was given.
+-- `roles::role_at` meets its contract, by what the arrival was given.
 -- Assumes nothing.
 use mathlib.Core.Path.{ap, _∙_}
-use Rattle.marks.specs.Mark.{role, roleOf}
+use Rattle.roles.specs.Role.{role, roleOf}
 use borrow.Author.Needs.{needs}
-use Rattle.marks.proofs.role_at.Statement.{statement}
-use Rattle.marks.proofs.role_at.Tie as tie
+use Rattle.roles.proofs.role_at.Statement.{statement}
+use Rattle.roles.proofs.role_at.Tie as tie
 
 given-requires : tie.Need-given-requires
 given-requires c κs = search needs

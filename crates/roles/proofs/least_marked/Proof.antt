@@ -1,10 +1,10 @@
--- `marks::least_marked` meets its contract, case by case.
+-- `roles::least_marked` meets its contract, case by case.
 -- Assumes nothing.
 use mathlib.Core.Path.{sym, ap}
 use borrow.Author.Needs.{needs}
-use Rattle.marks.specs.Mark.{leastMarked}
-use Rattle.marks.proofs.least_marked.Statement.{statement}
-use Rattle.marks.proofs.least_marked.Tie as tie
+use Rattle.roles.specs.Role.{leastMarked}
+use Rattle.roles.proofs.least_marked.Statement.{statement}
+use Rattle.roles.proofs.least_marked.Tie as tie
 
 enum-told : tie.Need-enum-told
 enum-told c = search needs
