@@ -18,8 +18,8 @@ use Rattle.space.proofs.SumBy.{sumBy-lt}
 use Rattle.octets.specs.Octets.{number, bytes, xorBytes}
 use Rattle.octets.proofs.Numbers.{number-⊕, number-bytes, number-zero, zero-number, length-bytes, bytes-below, bytes-⊕}
 use Rattle.octets.proofs.Xors.{length-xorBytes, xorBytes-below, xorBytes-assoc}
-use Rattle.words.specs.Words.{littleAt}
-use Rattle.words.proofs.Littles.{little-⊕, little-zero, zero-little}
+use Rattle.littles.specs.Littles.{littleAt}
+use Rattle.littles.proofs.Littles.{little-⊕, little-zero, zero-little}
 use Rattle.rows.specs.Rows.{named}
 use Rattle.rows.specs.Bytes.{cut}
 use Rattle.agree.specs.Quads.{quadOf, quadPlus, quadNone}

@@ -5,7 +5,7 @@ use mathlib.Core.List.{List}
 use lib.Dec.{eqb}
 use lib.ListN.{length}
 use Rattle.space.specs.Space.{_⊕_}
-use Rattle.words.specs.Words.{littleAt}
+use Rattle.littles.specs.Littles.{littleAt}
 use Rattle.agree.specs.declared.Quad.{Quad}
 
 -- Four words that cover 8 to 32 bytes: none begins in the last seven.

@@ -23,10 +23,10 @@ impl Quad {
     {
         let last = from.len() - 8;
         Quad {
-            a: words::little(from, 0),
-            b: words::little(from, octets::least(8, last)),
-            c: words::little(from, octets::least(16, last)),
-            d: words::little(from, octets::least(24, last)),
+            a: littles::little(from, 0),
+            b: littles::little(from, octets::least(8, last)),
+            c: littles::little(from, octets::least(16, last)),
+            d: littles::little(from, octets::least(24, last)),
         }
     }
 

@@ -11,7 +11,7 @@ use Rattle.space.proofs.Lists.{below-append}
 use Rattle.octets.specs.Octets.{number, over, lay}
 use Rattle.octets.proofs.Numbers.{bytes-below}
 use Rattle.octets.proofs.Runs.{below-parts, flat-below}
-use Rattle.words.proofs.Littles.{littleBytes-below}
+use Rattle.littles.proofs.Littles.{littleBytes-below}
 use Rattle.lists.specs.Lists.{rowAt}
 use Rattle.basis.specs.Algorithm2.{Pass}
 use Rattle.tally.specs.Tally.{mostKept}

@@ -5,7 +5,8 @@ use mathlib.Core.List.{List}
 use lib.Dec.{eqb, ltb}
 use lib.ListN.{length, take, replicate}
 use Rattle.octets.specs.Octets.{number, bytes, numbers, over, lay}
-use Rattle.words.specs.Words.{wordAt, littleBytes}
+use Rattle.words.specs.Words.{wordAt}
+use Rattle.littles.specs.Littles.{littleBytes}
 use Rattle.basis.specs.Algorithm2.{Pass, pass}
 
 -- The bytes of 64 slots of 80 bytes, and of a head of 8 for each.

@@ -32,7 +32,7 @@ fn store(slots: &mut [u8], t: usize, vector: &[u8])
     let h = HEADS + 8 * (63 - t);
     let i = h + 8;
     octets::copy(&mut slots[at..end], vector);
-    words::put_little(&mut slots[h..i], words::word(vector, 0));
+    littles::put_little(&mut slots[h..i], words::word(vector, 0));
 }
 
 // A vector goes into the slot where its pass stops; whether there was one.

@@ -20,8 +20,9 @@ use Rattle.octets.proofs.Lay.{length-lay}
 use Rattle.octets.proofs.Laid.{numbers-before, numbers-lay}
 use Rattle.octets.proofs.Loaded.{number-loaded, drop-zeros}
 use Rattle.octets.proofs.Views.{part-room}
-use Rattle.words.specs.Words.{wordAt, littleBytes}
-use Rattle.words.proofs.Littles.{length-littleBytes}
+use Rattle.words.specs.Words.{wordAt}
+use Rattle.littles.specs.Littles.{littleBytes}
+use Rattle.littles.proofs.Littles.{length-littleBytes}
 use Rattle.basis.specs.Algorithm2.{Pass, later, pass}
 use Rattle.basis.proofs.Passes.{pass-cases}
 use Rattle.basis.proofs.Cuts.{cut, cutPass}

@@ -14,8 +14,9 @@ use Rattle.octets.specs.Octets.{number, bytes}
 use Rattle.octets.proofs.Numbers.{bytes-number}
 use Rattle.octets.proofs.Runs.{below-parts}
 use Rattle.octets.proofs.Parts.{part-long}
-use Rattle.words.specs.Words.{fourOf, littleAt, littleBytes}
-use Rattle.words.proofs.Littles.{little-inside, littleBytes-littleOf}
+use Rattle.words.specs.Words.{fourOf}
+use Rattle.littles.specs.Littles.{littleAt, littleBytes}
+use Rattle.littles.proofs.Littles.{little-inside, littleBytes-littleOf}
 
 number-one : (a b : List ℕ) → length a ≡ length b → Below 256 a → Below 256 b → number a ≡ number b → a ≡ b
 number-one a b e p q h = sym (bytes-number a p) ∙ ap₂ (λ (w x : ℕ). bytes w x) e h ∙ bytes-number b q

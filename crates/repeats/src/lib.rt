@@ -16,12 +16,12 @@ fn equal(a: &[u8], b: &[u8]) -> bool
     let last = a.len() - 8;
     let mut i: usize = 0;
     while i < last {
-        if words::little(a, i) != words::little(b, i) {
+        if littles::little(a, i) != littles::little(b, i) {
             return false;
         }
         i += 8;
     }
-    words::little(a, last) == words::little(b, last)
+    littles::little(a, last) == littles::little(b, last)
 }
 
 // The same, by the seeds first: few entries that are not equal have the same.

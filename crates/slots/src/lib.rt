@@ -56,7 +56,7 @@ fn head_of(heads: &[u8], b: usize) -> u64
 {
     let at = 8 * b;
     let e = at + 8;
-    words::little(&heads[at..e], 0)
+    littles::little(&heads[at..e], 0)
 }
 
 // ---- 64 slots

@@ -18,7 +18,7 @@ use Rattle.octets.proofs.Lay.{length-lay, over-back, lay-zero, lay-within}
 use Rattle.octets.proofs.Parts.{back}
 use Rattle.octets.proofs.Views.{length-part}
 use Rattle.words.specs.Words.{wordAt}
-use Rattle.words.proofs.Littles.{length-littleBytes}
+use Rattle.littles.proofs.Littles.{length-littleBytes}
 use Rattle.places.specs.Places.{named}
 use Rattle.slotting.specs.Slotting.{vectorBytes, fitsSlot, slotted, headIn, headOf, headed}
 

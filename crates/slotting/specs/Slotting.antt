@@ -5,7 +5,8 @@ use mathlib.Core.List.{List}
 use lib.Dec.{eqb, ltb}
 use lib.ListN.{length}
 use Rattle.octets.specs.Octets.{lay}
-use Rattle.words.specs.Words.{wordAt, littleBytes}
+use Rattle.words.specs.Words.{wordAt}
+use Rattle.littles.specs.Littles.{littleBytes}
 use Rattle.places.specs.Places.{named}
 
 -- A slot has a vector: a row and its tail, which has the 40 bytes that name kept rows, and as many more as the row has fewer than 40.

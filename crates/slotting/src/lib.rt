@@ -32,5 +32,5 @@ pub fn put_head(heads: &mut [u8], vector: &[u8], t: usize)
     }
     let h = 512 * (t / 64) + 8 * (63 - t % 64);
     let e = h + 8;
-    words::put_little(&mut heads[h..e], words::word(vector, 8 * (t / 64)));
+    littles::put_little(&mut heads[h..e], words::word(vector, 8 * (t / 64)));
 }

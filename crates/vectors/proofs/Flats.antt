@@ -9,8 +9,8 @@ use Rattle.space.specs.Lists.{Below}
 use Rattle.space.proofs.Lists.{below-append}
 use Rattle.octets.specs.Octets.{xorBytes}
 use Rattle.octets.proofs.Xors.{xorBytes-append}
-use Rattle.words.specs.Words.{littleBytes}
-use Rattle.words.proofs.Littles.{length-littleBytes, littleBytes-below, littleBytes-⊕}
+use Rattle.littles.specs.Littles.{littleBytes}
+use Rattle.littles.proofs.Littles.{length-littleBytes, littleBytes-below, littleBytes-⊕}
 use Rattle.vectors.specs.Vectors.{flatLittle}
 
 pub length-flatLittle : (xs : List ℕ) → length (flatLittle xs) ≡ 8 * length xs

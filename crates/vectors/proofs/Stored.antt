@@ -15,8 +15,8 @@ use Rattle.octets.proofs.Lay.{lay-over}
 use Rattle.octets.proofs.Parts.{back}
 use Rattle.vectors.specs.declared.Vector.{Vector}
 use Rattle.vectors.specs.Vectors.{flatLittle, wordsIn, bytesOf, storeIn}
-use Rattle.words.specs.Words.{littleBytes}
-use Rattle.words.proofs.Littles.{length-littleBytes}
+use Rattle.littles.specs.Littles.{littleBytes}
+use Rattle.littles.proofs.Littles.{length-littleBytes}
 use Rattle.vectors.proofs.Flats.{length-flatLittle, flatLittle-snoc}
 
 -- The bytes of the first i words.

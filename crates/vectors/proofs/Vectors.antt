@@ -11,8 +11,8 @@ use Rattle.octets.specs.Octets.{xorBytes}
 use Rattle.octets.proofs.Runs.{below-parts}
 use Rattle.octets.proofs.Views.{length-part}
 use Rattle.octets.proofs.Lay.{over-all}
-use Rattle.words.specs.Words.{littleOf, littleAt, littleBytes}
-use Rattle.words.proofs.Littles.{little-inside, littleBytes-littleOf}
+use Rattle.littles.specs.Littles.{littleOf, littleAt, littleBytes}
+use Rattle.littles.proofs.Littles.{little-inside, littleBytes-littleOf}
 use Rattle.vectors.specs.declared.Vector.{Vector}
 use Rattle.vectors.specs.Vectors.{flatLittle, vectorOf, wordsIn, bytesOf, plusOf, storeIn}
 use Rattle.vectors.proofs.Flats.{length-flatLittle, flatLittle-below, flatLittle-⊕}

@@ -6,7 +6,7 @@ use lib.Dec.{leb}
 use lib.ListN.{length}
 use Rattle.space.specs.Space.{_⊕_}
 use Rattle.octets.specs.Octets.{over}
-use Rattle.words.specs.Words.{littleAt, littleBytes}
+use Rattle.littles.specs.Littles.{littleAt, littleBytes}
 use Rattle.vectors.specs.declared.Vector.{Vector}
 
 -- Numbers one after the other, eight bytes each.

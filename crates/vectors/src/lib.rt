@@ -22,16 +22,16 @@ pub fn load(from: &[u8]) -> Vector
     ensures { λ r. ⌜ r ≡ vectorOf (now (from .entry)) ⌝ }
 {
     Vector {
-        a: words::little(from, 0),
-        b: words::little(from, 8),
-        c: words::little(from, 16),
-        d: words::little(from, 24),
-        e: words::little(from, 32),
-        f: words::little(from, 40),
-        g: words::little(from, 48),
-        h: words::little(from, 56),
-        i: words::little(from, 64),
-        j: words::little(from, 72),
+        a: littles::little(from, 0),
+        b: littles::little(from, 8),
+        c: littles::little(from, 16),
+        d: littles::little(from, 24),
+        e: littles::little(from, 32),
+        f: littles::little(from, 40),
+        g: littles::little(from, 48),
+        h: littles::little(from, 56),
+        i: littles::little(from, 64),
+        j: littles::little(from, 72),
     }
 }
 
@@ -83,7 +83,7 @@ pub fn store(into: &mut [u8], v: Vector)
     while i < 10 {
         let at = 8 * i;
         let end = at + 8;
-        words::put_little(&mut into[at..end], nth(v, i));
+        littles::put_little(&mut into[at..end], nth(v, i));
         i += 1;
     }
 }

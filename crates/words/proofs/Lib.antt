@@ -1,4 +1,3 @@
 pub mod Shifted
 pub mod Words
-pub mod Littles
 pub mod Settled

@@ -7,19 +7,9 @@ use Rattle.words.proofs.word.Kinds as word
 use Rattle.words.proofs.word.Reads as word-contract
 use Rattle.words.proofs.four.Kinds as four
 use Rattle.words.proofs.four.Reads as four-contract
-use Rattle.words.proofs.little.Kinds as little
-use Rattle.words.proofs.little.Reads as little-contract
-use Rattle.words.proofs.put_little.Kinds as put-little
-use Rattle.words.proofs.put_little.Reads as put-little-contract
 
 pub word-settled : Settles word.ps word.r word-contract.Post
 word-settled κs args = unique (λ o is. ap (λ r. (r, (tt, (tt, tt)))) is)
 
 pub four-settled : Settles four.ps four.r four-contract.Post
 four-settled κs args = unique (λ o is. ap (λ r. (r, (tt, tt))) is)
-
-pub little-settled : Settles little.ps little.r little-contract.Post
-little-settled κs args = unique (λ o is. ap (λ r. (r, (tt, (tt, tt)))) is)
-
-pub put-little-settled : Settles put-little.ps put-little.r put-little-contract.Post
-put-little-settled κs args = unique (λ o is. ap (λ v. (tt, (v, (tt, tt)))) is)

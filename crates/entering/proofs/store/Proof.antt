@@ -8,7 +8,8 @@ use mathlib.Core.List.{List}
 use lib.ListN.{length, take, drop}
 use borrow.Rule.Slice.PartMut.{putMid}
 use Rattle.octets.specs.Octets.{lay}
-use Rattle.words.specs.Words.{wordAt, littleBytes}
+use Rattle.words.specs.Words.{wordAt}
+use Rattle.littles.specs.Littles.{littleBytes}
 use Rattle.octets.proofs.Lay.{length-lay}
 use Rattle.octets.proofs.Parts.{back}
 use Rattle.octets.proofs.Views.{part-room, length-part}

@@ -9,7 +9,7 @@ use borrow.Author.Needs.{needs}
 use Rattle.octets.specs.Octets.{lay}
 use Rattle.octets.proofs.Parts.{back}
 use Rattle.octets.proofs.Views.{length-part}
-use Rattle.words.specs.Words.{littleBytes}
+use Rattle.littles.specs.Littles.{littleBytes}
 use Rattle.slotting.specs.Slotting.{headIn, headOf}
 use Rattle.slotting.proofs.Fits.{no-head, headed-is, length-headOf}
 use Rattle.slotting.proofs.put_head.Statement.{statement}

@@ -9,7 +9,7 @@ use Rattle.octets.proofs.Views.{length-part}
 use borrow.Author.Tests.{lt-leb}
 use borrow.Author.Needs.{needs}
 use Rattle.vectors.specs.Vectors.{storeIn}
-use Rattle.words.specs.Words.{littleBytes}
+use Rattle.littles.specs.Littles.{littleBytes}
 use Rattle.vectors.proofs.Stored.{Stored, stored-start, stored-more, stored-end}
 use Rattle.vectors.proofs.store.Statement.{statement}
 use Rattle.vectors.proofs.store.Tie as tie

@@ -1,16 +1,16 @@
--- `words::little` meets its contract: the eight bytes are there, or the answer is 0.
+-- `littles::little` meets its contract: the eight bytes are there, or the answer is 0.
 -- Assumes nothing.
 use mathlib.Core.Path.{_≡_, sym, _∙_}
 use Prim.Native.Nat.{_+_, _-_}
 use denote.Ref.{now}
 use lib.ListN.{length}
 use borrow.Author.Tests.{lt-leb}
-use Rattle.words.specs.Words.{littleAt}
-use Rattle.words.proofs.Littles.{little-inside}
+use Rattle.littles.specs.Littles.{littleAt}
+use Rattle.littles.proofs.Littles.{little-inside}
 use native.Mathlib.Omega.{arith}
 use borrow.Author.Needs.{needs}
-use Rattle.words.proofs.little.Statement.{statement}
-use Rattle.words.proofs.little.Tie as tie
+use Rattle.littles.proofs.little.Statement.{statement}
+use Rattle.littles.proofs.little.Tie as tie
 
 returns : tie.Need-returns
 unfolding littleAt

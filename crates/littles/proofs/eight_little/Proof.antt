@@ -1,4 +1,4 @@
--- `words::eight_little` meets its contract: eight bytes, each shifted to its place.
+-- `littles::eight_little` meets its contract: eight bytes, each shifted to its place.
 -- Assumes nothing.
 use borrow.Author.Needs.{needs}
 use mathlib.Core.Path.{sym, ap, _∙_}
@@ -6,11 +6,11 @@ use Prim.Native.Nat.{ℕ, _<_}
 use native.Mathlib.Omega.{arith}
 use denote.Ref.{now}
 use lib.ListN.{getD}
-use Rattle.words.specs.Words.{littleOf}
+use Rattle.littles.specs.Littles.{littleOf}
 use Rattle.words.proofs.Shifted.{shifted-is, eight-of}
-use Rattle.words.proofs.Littles.{little-turned}
-use Rattle.words.proofs.eight_little.Statement.{statement}
-use Rattle.words.proofs.eight_little.Tie as tie
+use Rattle.littles.proofs.Littles.{little-turned}
+use Rattle.littles.proofs.eight_little.Statement.{statement}
+use Rattle.littles.proofs.eight_little.Tie as tie
 
 shared-slice-read-result : tie.Need-shared-slice-read-result
 shared-slice-read-result c = search needs

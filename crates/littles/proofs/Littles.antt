@@ -16,7 +16,7 @@ use Rattle.space.specs.Lists.{Below}
 use Rattle.octets.specs.Octets.{number, xorBytes}
 use Rattle.octets.proofs.Runs.{below-parts}
 use Rattle.octets.proofs.Xors.{length-xorBytes, drop-xorBytes, take-xorBytes}
-use Rattle.words.specs.Words.{littleOf, littleAt, littleBytes}
+use Rattle.littles.specs.Littles.{littleOf, littleAt, littleBytes}
 
 -- eight bytes from the last to the first stand for the same number
 pub little-turned : (a b c d e f g h : ℕ) → number (h ∷ g ∷ f ∷ e ∷ d ∷ c ∷ b ∷ a ∷ []) ≡ littleOf (a ∷ b ∷ c ∷ d ∷ e ∷ f ∷ g ∷ h ∷ [])

@@ -1,4 +1,4 @@
--- `words::put_little` meets its contract: a loop from the front that fills with the number's bytes; what is left of it has the bytes to come.
+-- `littles::put_little` meets its contract: a loop from the front that fills with the number's bytes; what is left of it has the bytes to come.
 -- Assumes nothing.
 use mathlib.Core.Path.{_≡_, sym, ap, _∙_}
 use mathlib.Core.List.{List}
@@ -9,10 +9,10 @@ use lib.ListN.{length, set}
 use Rattle.octets.proofs.Digits.{rest-more}
 use Rattle.octets.proofs.Fill.{Filling, filling-start, filling-more, filling-end}
 use Rattle.octets.proofs.Lay.{over-all}
-use Rattle.words.specs.Words.{littleBytes}
-use Rattle.words.proofs.Littles.{length-littleBytes, getD-littleBytes}
-use Rattle.words.proofs.put_little.Statement.{statement}
-use Rattle.words.proofs.put_little.Tie as tie
+use Rattle.littles.specs.Littles.{littleBytes}
+use Rattle.littles.proofs.Littles.{length-littleBytes, getD-littleBytes}
+use Rattle.littles.proofs.put_little.Statement.{statement}
+use Rattle.littles.proofs.put_little.Tie as tie
 
 -- At index i the bytes before i are written.
 record Written (old new : List ℕ) (x rest i : ℕ) : Type 0 where
