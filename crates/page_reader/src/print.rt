@@ -6,7 +6,7 @@ use lines::Line;
 use lines::Page;
 use reading::Answer;
 use reading::Numbers;
-use text::Spelled;
+use spelling::Spelled;
 
 // Puts words behind the first `at` characters, as far as there is room, and gives where they end.
 fn put(text: &mut [u8], at: usize, words: &[u8]) -> usize
@@ -95,7 +95,7 @@ pub(crate) fn page(bytes: &[u8])
     requires { ⌜ length (now bytes) ≤ 2048 ⌝ }
 {
     let mut text = [0u8; 4097];
-    let spelled = text::spell(bytes, &mut text);
+    let spelled = spelling::spell(bytes, &mut text);
     let Spelled::Characters(k) = spelled else {
         return;
     };

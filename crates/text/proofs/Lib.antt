@@ -1,4 +1,3 @@
 pub mod Digits
 pub mod Unhexed
-pub mod Spelt
 pub mod Settled

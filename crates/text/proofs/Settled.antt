@@ -5,11 +5,6 @@ use Rattle.octets.specs.Settles.{Settles}
 use Rattle.octets.proofs.Unique.{unique}
 use Rattle.text.proofs.unhex.Kinds as unhex
 use Rattle.text.proofs.unhex.Reads as unhex-contract
-use Rattle.text.proofs.spell.Kinds as spell
-use Rattle.text.proofs.spell.Reads as spell-contract
 
 pub unhex-settled : Settles unhex.ps unhex.r unhex-contract.Post
 unhex-settled κs args = unique (λ o is. ap₂ (λ r frame. (r, (tt, (frame, tt)))) (is .0) (is .1))
-
-pub spell-settled : Settles spell.ps spell.r spell-contract.Post
-spell-settled κs args = unique (λ o is. ap₂ (λ r text. (r, (tt, (text, tt)))) (is .0) (is .1))

@@ -1,4 +1,4 @@
--- Hexadecimal digits: the bytes of a line, and the line of a page. Document 01, "The page reader program".
+-- Hexadecimal digits: the bytes of a line. Document 01, "The page reader program".
 use Prim.Native.Nat.{ℕ, _+_, _-_, _*_, _/_, _%_}
 use mathlib.Core.Bool.{Bool, true, cond, not, _&&_, _||_}
 use mathlib.Core.List.{List, [], _∷_}
@@ -7,8 +7,6 @@ use lib.ListN.{length}
 use Rattle.octets.specs.Octets.{over}
 use Rattle.text.specs.declared.Hex.{Hex}
 use Rattle.text.specs.declared.Hex.the-variants.{Bytes, Bad, Room}
-use Rattle.text.specs.declared.Spelled.{Spelled}
-use Rattle.text.specs.declared.Spelled.the-variants as spelled
 
 -- ---- digits
 
@@ -54,27 +52,3 @@ unhexedBytes Room line = []
 -- The lent frame at exit.
 unfoldable pub unhexedFrame : List ℕ → List ℕ → List ℕ
 unhexedFrame line frame = over (unhexedBytes (unhexed line (length frame)) line) frame
-
--- ---- a page
-
--- "in lower-case hexadecimal": the digit of a number below 16.
-unfoldable pub letter : ℕ → ℕ
-letter d = cond (ltb d 10) (48 + d) (87 + d)
-
--- Two digits for each byte.
-unfoldable pub spelling : List ℕ → List ℕ
-spelling [] = []
-spelling (b ∷ bytes) = letter (b / 16) ∷ letter (b % 16) ∷ spelling bytes
-
--- The answer for so many bytes, and a lent text of so many characters.
-unfoldable pub spelt : ℕ → ℕ → Spelled
-spelt count room = cond (ltb (room / 2) count) spelled.Room (spelled.Characters (2 * count))
-
--- What is written.
-unfoldable pub speltCharacters : Spelled → List ℕ → List ℕ
-speltCharacters (spelled.Characters k) bytes = spelling bytes
-speltCharacters spelled.Room bytes = []
-
--- The lent text at exit.
-unfoldable pub speltText : List ℕ → List ℕ → List ℕ
-speltText bytes text = over (speltCharacters (spelt (length bytes) (length text)) bytes) text

@@ -4,7 +4,7 @@ use mathlib.Core.Path.{_≡_, sym, _∙_}
 use Prim.Native.Nat.{_*_}
 use denote.Ref.{now}
 use lib.ListN.{length}
-use Rattle.text.proofs.Spelt.{characters-told}
+use Rattle.spelling.proofs.Spelt.{characters-told}
 use native.Mathlib.Omega.{arith}
 use borrow.Author.Needs.{needs}
 use Rattle.page_reader.proofs.print.page.Statement.{statement}

@@ -1,14 +1,14 @@
--- `text::write_digits` meets its contract. The loop's invariant: the digits of the first i bytes stand written over the text.
+-- `spelling::write_digits` meets its contract. The loop's invariant: the digits of the first i bytes stand written over the text.
 -- Assumes nothing.
 use Prim.Native.Nat.{_-_, _*_, _≤_}
 use native.Mathlib.Omega.{arith}
 use denote.Ref.{now}
 use lib.ListN.{length, length-set}
 use Rattle.octets.proofs.Fill.{Filling, filling-start, filling-end}
-use Rattle.text.specs.Hex.{spelling}
-use Rattle.text.proofs.Spelt.{length-spelling, spelling-more}
-use Rattle.text.proofs.write_digits.Statement.{statement}
-use Rattle.text.proofs.write_digits.Tie as tie
+use Rattle.spelling.specs.Spelling.{spelling}
+use Rattle.spelling.proofs.Spelt.{length-spelling, spelling-more}
+use Rattle.spelling.proofs.write_digits.Statement.{statement}
+use Rattle.spelling.proofs.write_digits.Tie as tie
 
 abbrev Inv-loop : tie.InvT-loop
 Inv-loop bytes text₀ i₀ text i = Filling (spelling bytes) text₀ text (2 * length bytes) (2 * i)

@@ -12,10 +12,11 @@ use Rattle.space.specs.Lists.{Below}
 use Rattle.octets.specs.Octets.{over}
 use Rattle.octets.proofs.Runs.{over-none}
 use Rattle.octets.proofs.Fill.{Filling, filling-more}
-use Rattle.text.specs.declared.Spelled.the-variants.{Characters, Room}
-use Rattle.text.specs.Hex.{digit, allDigits, pairs, bad, letter, spelling, spelt, speltCharacters, speltText}
+use Rattle.text.specs.Hex.{digit, allDigits, pairs, bad}
 use Rattle.text.proofs.Digits.{digit-decimal, digit-lower}
 use Rattle.text.proofs.Unhexed.{bad-digits}
+use Rattle.spelling.specs.declared.Spelled.the-variants.{Characters, Room}
+use Rattle.spelling.specs.Spelling.{letter, spelling, spelt, speltCharacters, speltText}
 
 -- ---- a digit
 

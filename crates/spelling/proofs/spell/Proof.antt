@@ -1,11 +1,11 @@
--- `text::spell` meets its contract, by the law of the case that each return stands for.
+-- `spelling::spell` meets its contract, by the law of the case that each return stands for.
 -- Assumes nothing.
 use mathlib.Core.Path.{_∙_}
 use borrow.Author.Needs.{needs}
 use denote.Ref.{now}
-use Rattle.text.proofs.Spelt.{spell-room, spell-characters}
-use Rattle.text.proofs.spell.Statement.{statement}
-use Rattle.text.proofs.spell.Tie as tie
+use Rattle.spelling.proofs.Spelt.{spell-room, spell-characters}
+use Rattle.spelling.proofs.spell.Statement.{statement}
+use Rattle.spelling.proofs.spell.Tie as tie
 
 returns : tie.Need-returns
 returns c =

@@ -1,10 +1,10 @@
--- `text::letter` meets its contract, by the law of each half.
+-- `spelling::letter` meets its contract, by the law of each half.
 -- Assumes nothing.
 use mathlib.Core.Path.{sym}
 use borrow.Author.Needs.{needs}
-use Rattle.text.proofs.Spelt.{letter-decimal, letter-lower}
-use Rattle.text.proofs.letter.Statement.{statement}
-use Rattle.text.proofs.letter.Tie as tie
+use Rattle.spelling.proofs.Spelt.{letter-decimal, letter-lower}
+use Rattle.spelling.proofs.letter.Statement.{statement}
+use Rattle.spelling.proofs.letter.Tie as tie
 
 add-result : tie.Need-add-result
 add-result c = search needs
