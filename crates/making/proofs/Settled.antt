@@ -7,14 +7,9 @@ use Rattle.making.proofs.make.Kinds as make
 use Rattle.making.proofs.make.Reads as make-contract
 use Rattle.making.proofs.put_head.Kinds as put-head
 use Rattle.making.proofs.put_head.Reads as put-head-contract
-use Rattle.making.proofs.sum.Kinds as sum
-use Rattle.making.proofs.sum.Reads as sum-contract
 
 pub make-settled : Settles make.ps make.r make-contract.Post
 make-settled κs args = unique (λ o is. ap₂ (λ answer room. (answer, (tt, (tt, (tt, (tt, (tt, (room, tt)))))))) (is .0) (is .1))
-
-pub sum-settled : Settles sum.ps sum.r sum-contract.Post
-sum-settled κs args = unique (λ o is. ap (λ into. (tt, (into, (tt, (tt, tt))))) is)
 
 pub put-head-settled : Settles put-head.ps put-head.r put-head-contract.Post
 put-head-settled κs args = unique (λ o is. ap (λ room. (tt, (room, (tt, (tt, tt))))) is)

@@ -58,5 +58,5 @@ pub(crate) fn put_frame(
 {
     put_head(&mut into[..PAYLOAD_AT], page_number, n, l, seed);
     put_mark(&mut into[PAYLOAD_AT..PAYLOAD], 4, l as usize);
-    making::sum(&mut into[PAYLOAD..], page, constraint);
+    sums::sum(&mut into[PAYLOAD..], page, constraint);
 }

@@ -1,4 +1,4 @@
--- `making::sum` meets its contract: a sum that is added to zeros stands there, and bits past the last symbol name nothing.
+-- `sums::sum` meets its contract: a sum that is added to zeros stands there, and bits past the last symbol name nothing.
 -- Assumes nothing.
 use mathlib.Core.Path.{_≡_, ap, _∙_}
 use mathlib.Core.List.{List}
@@ -15,8 +15,8 @@ use Rattle.octets.proofs.Xors.{xorBytes-comm, xorBytes-zero}
 use Rattle.rows.specs.Rows.{named}
 use Rattle.rows.specs.Bytes.{cut}
 use Rattle.rows.proofs.Bits.{named-cut}
-use Rattle.making.proofs.sum.Statement.{statement}
-use Rattle.making.proofs.sum.Tie as tie
+use Rattle.sums.proofs.sum.Statement.{statement}
+use Rattle.sums.proofs.sum.Tie as tie
 
 zeros-add : (l : ℕ) (zeros page : List ℕ) (c r : ℕ) → zeros ≡ replicate l 0 → r ≡ c % 2 ^ (length page / length zeros)
     → xorBytes zeros (bytes (length zeros) (named (cut (length zeros) page) r)) ≡ bytes l (named (cut l page) c)

@@ -1,4 +1,4 @@
--- `making::add_named` meets its contract: each turn takes the lowest set bit away and adds its symbol, and what stands there is always
+-- `sums::add_named` meets its contract: each turn takes the lowest set bit away and adds its symbol, and what stands there is always
 -- what stood there with the symbols of the bits taken away. Assumes nothing.
 use mathlib.Core.Path.{_≡_, ap, _∙_}
 use mathlib.Core.List.{List}
@@ -12,8 +12,8 @@ use Rattle.octets.specs.Octets.{addFront}
 use Rattle.octets.proofs.Runs.{known-below}
 use Rattle.bits.specs.Bits.{lowest}
 use Rattle.rows.proofs.Bits.{Adding, adding-start, adding-end, adding-bit, adding-less, symbol-inside, added, length-added, added-zero, added-symbol}
-use Rattle.making.proofs.add_named.Statement.{statement}
-use Rattle.making.proofs.add_named.Tie as tie
+use Rattle.sums.proofs.add_named.Statement.{statement}
+use Rattle.sums.proofs.add_named.Tie as tie
 
 abbrev Inv-loop : tie.InvT-loop
 Inv-loop into₀ page names l rest₀ into rest = Adding (added into₀) (length into₀) page names into rest
