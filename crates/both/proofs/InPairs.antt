@@ -15,7 +15,7 @@ use Rattle.rows.specs.Bytes.{cut}
 use Rattle.reading.specs.declared.Answer.{Answer}
 use Rattle.reading.specs.declared.Answer.the-variants as answer
 use Rattle.reading.specs.Outcome.{Lent, Outcome, passes, checks, outcome, gave}
-use Rattle.checks.specs.Gate.{gate}
+use Rattle.gate.specs.Gate.{gate}
 use Rattle.reader.specs.Reader.{buffers, outcomeOf}
 use Rattle.reader.specs.Pairs.{pairCounts, counted, paired, inPairs}
 use Rattle.apart.specs.Apart.{apart}

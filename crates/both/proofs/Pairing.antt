@@ -26,8 +26,8 @@ use Rattle.reading.proofs.Writes.{EarlyCheck, checks-early}
 use Rattle.reading.proofs.Given.{outcome-read, given-passes, given-read}
 use Rattle.reading.proofs.Page.{length-pageOf, pageOf-below}
 use Rattle.reading.proofs.Answer.{the-type}
-use Rattle.checks.specs.declared.Gate.the-variants as gates
-use Rattle.checks.specs.Gate.{gate}
+use Rattle.gate.specs.declared.Gate.the-variants as gates
+use Rattle.gate.specs.Gate.{gate}
 use Rattle.reader.specs.Reader.{outcomeOf}
 use Rattle.apart.specs.Apart.{apart}
 use Rattle.both.specs.Both as spec

@@ -8,11 +8,13 @@ use lib.ListN.{length}
 use Rattle.rows.specs.Rows.{shape, listRowBytes, rowCount, rowsOf}
 use Rattle.reading.specs.declared.Answer.the-variants as answer
 use Rattle.reading.specs.Outcome.{Lent, refuses, strayFrom, checks, wholeLength, roomFor}
-use Rattle.checks.specs.declared.Gate.{Gate}
-use Rattle.checks.specs.declared.Gate.the-variants as gates
-use Rattle.checks.specs.Gate.{gate, straysIn, through, allChecks}
+use Rattle.gate.specs.declared.Gate.{Gate}
+use Rattle.gate.specs.declared.Gate.the-variants as gates
+use Rattle.gate.specs.Gate.{gate}
+use Rattle.strays.specs.Strays.{straysIn}
+use Rattle.checks.specs.Checks.{through, allChecks}
 use Rattle.reading.proofs.Checks.{most-512}
-use Rattle.checks.proofs.Straying.{strays-listed}
+use Rattle.strays.proofs.Straying.{strays-listed}
 
 -- what the gate says decides, and where it is open the rows do
 pub gate-decides : (n l : ℕ) (list : List ℕ) (page uses roles scratch : ℕ) (g : Gate) → g ≡ gate n l (length list) page uses roles scratch

@@ -1,3 +1,2 @@
-pub mod Straying
 pub mod Gating
 pub mod Settled

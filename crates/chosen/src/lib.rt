@@ -55,7 +55,7 @@ pub fn proper(n: u8, l: u8, list: &[u8], roles: &[u8]) -> bool
     if !rows::shaped(n, l) {
         return false;
     }
-    if !checks::whole(l, list.len()) {
+    if !gate::whole(l, list.len()) {
         return false;
     }
     if roles.len() < lists::count(list.len(), l) {

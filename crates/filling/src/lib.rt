@@ -44,7 +44,7 @@ fn enter_all(slots: &mut [u8], list: &[u8], roles: &[u8], l: u8) -> bool
 pub fn fill(l: u8, list: &[u8], roles: &[u8], slots: &mut [u8]) -> bool
     ensures { λ r. ⌜ leaves (now (slots .exit)) r ≡ fillOf l (now (list .entry)) (now (roles .entry)) (now (slots .entry)) ⌝ }
 {
-    if !checks::whole(l, list.len()) {
+    if !gate::whole(l, list.len()) {
         return false;
     }
     if roles.len() < lists::count(list.len(), l) {

@@ -127,7 +127,7 @@ fn read_rows(page: Page, rows: usize, list: &[u8])
     let mut bytes = [0u8; 2048];
     let mut uses = [0u16; places::MOST_ROWS];
     let mut roles = [0u8; places::MOST_ROWS];
-    let mut scratch = [0u8; checks::SCRATCH];
+    let mut scratch = [0u8; gate::SCRATCH];
     let answer = reader::read_list(
         page.n,
         page.l,

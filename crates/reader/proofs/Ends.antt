@@ -26,7 +26,7 @@ use Rattle.state.specs.Layout.{stateBytes, usesPart, placesPart}
 use Rattle.views.proofs.Longer.{uses-longer, places-longer}
 use Rattle.checks.specs.declared.Checked.{Checked}
 use Rattle.checks.specs.declared.Checked.the-variants.{Refused, Passed}
-use Rattle.checks.specs.Gate.{checkOf, allChecks}
+use Rattle.checks.specs.Checks.{checkOf, allChecks}
 use Rattle.checks.proofs.Gating.{checks-are}
 use Rattle.marks.specs.Mark.{usesAfter, pairsAfter}
 use Rattle.concluding.proofs.Marks.{uses-after, pairs-after}

@@ -55,7 +55,7 @@ fn clear_scratch(scratch: &mut [u8])
     requires { ⌜ scratchBytes ≤ length (now scratch) ⌝ }
     ensures { λ _. ⌜ now (scratch .exit) ≡ over zeros (now (scratch .entry)) ⌝ }
 {
-    octets::clear(&mut scratch[..checks::SCRATCH]);
+    octets::clear(&mut scratch[..gate::SCRATCH]);
 }
 
 // The uses of so many rows as 16-bit numbers, and then the scratch is cleared.

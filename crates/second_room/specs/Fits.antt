@@ -2,8 +2,8 @@
 use Prim.Native.Nat.{ℕ}
 use mathlib.Core.Bool.{Bool, true, false}
 use lib.Dec.{leb}
-use Rattle.checks.specs.declared.Gate.{Gate}
-use Rattle.checks.specs.declared.Gate.the-variants as gates
+use Rattle.gate.specs.declared.Gate.{Gate}
+use Rattle.gate.specs.declared.Gate.the-variants as gates
 
 -- Of what the checks 1 to 3 say of the second buffers: whether there is room for a second reading and its list, or 1 or 2 comes first.
 unfoldable pub fitsToo : Gate → ℕ → ℕ → Bool

@@ -1,8 +1,9 @@
 -- `checks::all` meets its contract: the gate refuses, or the rows decide.
 -- Assumes nothing.
 use mathlib.Core.Path.{sym, ap, _∙_}
-use Rattle.checks.specs.declared.Gate.the-variants.{Open, Shape, List, Room}
-use Rattle.checks.specs.Gate.{strayCheck, checkOf, through}
+use Rattle.gate.specs.declared.Gate.the-variants.{Open, Shape, List, Room}
+use Rattle.strays.specs.Strays.{strayCheck}
+use Rattle.checks.specs.Checks.{checkOf, through}
 use Rattle.checks.proofs.Gating.{gate-decides}
 use borrow.Author.Needs.{needs}
 use Rattle.checks.proofs.all.Statement.{statement}

@@ -8,7 +8,7 @@ use Rattle.octets.specs.Octets.{number}
 use Rattle.octets.proofs.Runs.{known-below}
 use Rattle.rows.specs.Rows.{constraint}
 use Rattle.rows.specs.Bytes.{stray}
-use Rattle.checks.proofs.Straying.{constraint-word}
+use Rattle.strays.proofs.Straying.{constraint-word}
 use Rattle.chosen.specs.Weight.{weight}
 use Rattle.chosen.proofs.Choosing.{chosen-one, chosen-other}
 use Rattle.chosen.proofs.adds.Statement.{statement}

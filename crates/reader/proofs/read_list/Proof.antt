@@ -10,7 +10,7 @@ use Rattle.reading.specs.Outcome.{Lent, checks, passes, scratchBytes}
 use Rattle.reading.proofs.Checks.{passed, roomy-fits}
 use Rattle.state.specs.Layout.{usesPart, placesPart}
 use Rattle.marks.specs.Mark.{usesAfter}
-use Rattle.checks.specs.Gate.{checkOf}
+use Rattle.checks.specs.Checks.{checkOf}
 use Rattle.reader.specs.Reader.{buffers}
 use Rattle.reader.proofs.Ends.{has-state, checks-say, says-passed, says-refused, numbers-end}
 use native.Mathlib.Omega.{arith}

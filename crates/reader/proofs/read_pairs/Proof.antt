@@ -12,7 +12,7 @@ use Rattle.reading.specs.Outcome.{Lent, checks, passes, scratchBytes}
 use Rattle.reading.proofs.Checks.{passed, roomy-fits}
 use Rattle.state.specs.Layout.{usesPart, placesPart}
 use Rattle.marks.specs.Mark.{pairsAfter}
-use Rattle.checks.specs.Gate.{checkOf, allChecks}
+use Rattle.checks.specs.Checks.{checkOf, allChecks}
 use Rattle.reader.specs.Reader.{buffers}
 use Rattle.reader.specs.Pairs.{pairCounts, counted}
 use Rattle.reader.proofs.Ends.{has-state, checks-say, says-passed, counts-long, pairs-refused, pairs-end}

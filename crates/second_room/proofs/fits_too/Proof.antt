@@ -3,7 +3,7 @@
 use mathlib.Core.Path.{_≡_, sym, ap, _∙_}
 use Prim.Native.Nat.{ℕ}
 use borrow.Author.Needs.{needs}
-use Rattle.checks.specs.declared.Gate.{Gate}
+use Rattle.gate.specs.declared.Gate.{Gate}
 use Rattle.second_room.specs.Fits.{fitsToo}
 use Rattle.second_room.proofs.fits_too.Statement.{statement}
 use Rattle.second_room.proofs.fits_too.Tie as tie

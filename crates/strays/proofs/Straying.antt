@@ -23,7 +23,7 @@ use Rattle.lists.proofs.Rows.{row-length, row-number}
 use Rattle.reading.specs.declared.Answer.the-variants as answer
 use borrow.Author.Tests.{le-leb, lt-leb}
 use Rattle.reading.specs.Outcome.{passes, refuses, strayFrom}
-use Rattle.checks.specs.Gate.{straysIn}
+use Rattle.strays.specs.Strays.{straysIn}
 
 -- the constraint is the number of the first eight bytes
 pub row-constraint : (row : List ℕ) → 8 ≤ length row → Below 256 row → constraint (length row - 8) (number row) ≡ number (take 8 row)

@@ -1,9 +1,8 @@
--- `checks::first_stray` meets its contract. The loop's invariant: what is said of the rows from i on is what is to be said of all.
+-- `strays::first_stray` meets its contract. The loop's invariant: what is said of the rows from i on is what is to be said of all.
 -- Assumes nothing.
 use mathlib.Core.Path.{_≡_, refl, sym, ap, _∙_}
-use Prim.Native.Nat.{ℕ, _-_, _^_, _≤_, _<_}
+use Prim.Native.Nat.{_-_, _^_, _≤_, _<_}
 use native.Mathlib.Omega.{arith}
-use borrow.Author.Needs.{needs}
 use lib.Dec.{leb}
 use lib.ListN.{length, getD, drop}
 use Rattle.octets.specs.Octets.{number}
@@ -11,10 +10,10 @@ use Rattle.octets.proofs.Runs.{known-below}
 use Rattle.rows.specs.Rows.{rowCount, rowsOf, constraint}
 use Rattle.lists.proofs.Rows.{row-length}
 use Rattle.reading.specs.Outcome.{strayFrom}
-use Rattle.checks.specs.Gate.{strayCheck}
-use Rattle.checks.proofs.Straying.{row-asked, stray-here, stray-later, stray-never, strays-listed, strays-over}
-use Rattle.checks.proofs.first_stray.Statement.{statement}
-use Rattle.checks.proofs.first_stray.Tie as tie
+use Rattle.strays.specs.Strays.{strayCheck}
+use Rattle.strays.proofs.Straying.{row-asked, stray-here, stray-later, stray-never, strays-listed, strays-over}
+use Rattle.strays.proofs.first_stray.Statement.{statement}
+use Rattle.strays.proofs.first_stray.Tie as tie
 
 abbrev Inv-loop : tie.InvT-loop
 Inv-loop n l list m arrival₀ arrival = strayFrom n l arrival (drop arrival (rowsOf l list)) ≡ strayFrom n l 0 (rowsOf l list)

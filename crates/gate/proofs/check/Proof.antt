@@ -1,4 +1,4 @@
--- `checks::check` meets its contract: the first test that fails gives the answer.
+-- `gate::check` meets its contract: the first test that fails gives the answer.
 -- Assumes nothing.
 use mathlib.Core.Path.{sym, _∙_}
 use Prim.Native.Nat.{_≤_}
@@ -6,9 +6,9 @@ use native.Mathlib.Nat.{mul-le-mul-right}
 use native.Mathlib.Omega.{arith}
 use borrow.Author.Needs.{needs}
 use borrow.Author.Tests.{not-true, not-false}
-use Rattle.checks.specs.Gate.{gate}
-use Rattle.checks.proofs.check.Statement.{statement}
-use Rattle.checks.proofs.check.Tie as tie
+use Rattle.gate.specs.Gate.{gate}
+use Rattle.gate.proofs.check.Statement.{statement}
+use Rattle.gate.proofs.check.Tie as tie
 
 shaped-requires : tie.Need-shaped-requires
 shaped-requires c κs = search needs

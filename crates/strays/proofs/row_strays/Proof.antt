@@ -1,4 +1,4 @@
--- `checks::row_strays` meets its contract: the first word of a row is its constraint.
+-- `strays::row_strays` meets its contract: the first word of a row is its constraint.
 -- Assumes nothing.
 use mathlib.Core.Path.{ap, _∙_}
 use Prim.Native.Nat.{ℕ, _^_}
@@ -6,9 +6,9 @@ use borrow.Author.Needs.{needs}
 use lib.Dec.{leb}
 use Rattle.octets.proofs.Runs.{known-below}
 use Rattle.rows.specs.Bytes.{stray}
-use Rattle.checks.proofs.Straying.{constraint-word}
-use Rattle.checks.proofs.row_strays.Statement.{statement}
-use Rattle.checks.proofs.row_strays.Tie as tie
+use Rattle.strays.proofs.Straying.{constraint-word}
+use Rattle.strays.proofs.row_strays.Statement.{statement}
+use Rattle.strays.proofs.row_strays.Tie as tie
 
 word-requires : tie.Need-word-requires
 word-requires c κs = search needs

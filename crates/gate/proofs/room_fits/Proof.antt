@@ -1,9 +1,9 @@
--- `checks::room_fits` meets its contract: each return is one test of a room, and those before it were passed.
+-- `gate::room_fits` meets its contract: each return is one test of a room, and those before it were passed.
 -- Assumes nothing.
 use borrow.Author.Tests.{le-leb, lt-leb}
 use Rattle.reading.specs.Outcome.{scratchBytes, roomFor}
-use Rattle.checks.proofs.room_fits.Statement.{statement}
-use Rattle.checks.proofs.room_fits.Tie as tie
+use Rattle.gate.proofs.room_fits.Statement.{statement}
+use Rattle.gate.proofs.room_fits.Tie as tie
 
 returns : tie.Need-returns
 unfolding roomFor

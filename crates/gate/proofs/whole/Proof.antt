@@ -1,13 +1,12 @@
--- `checks::whole` meets its contract: each return is one test of the list's length.
+-- `gate::whole` meets its contract: each return is one test of the list's length.
 -- Assumes nothing.
-use mathlib.Core.Path.{_≡_, sym, ap, _∙_}
 use borrow.Author.Needs.{needs}
 use borrow.Author.Tests.{eq-eqb, ne-eqb}
-use Prim.Native.Nat.{ℕ, _%_}
+use Prim.Native.Nat.{_%_}
 use Rattle.rows.specs.Rows.{listRowBytes}
 use Rattle.reading.specs.Outcome.{wholeLength}
-use Rattle.checks.proofs.whole.Statement.{statement}
-use Rattle.checks.proofs.whole.Tie as tie
+use Rattle.gate.proofs.whole.Statement.{statement}
+use Rattle.gate.proofs.whole.Tie as tie
 
 stride-requires : tie.Need-stride-requires
 stride-requires c κs = search needs
