@@ -12,7 +12,8 @@ use Rattle.octets.specs.Octets.{bytes}
 use Rattle.basis.specs.Algorithm2.{Pass}
 use Rattle.tally.specs.Tally.{mostKept, tailBytes}
 use Rattle.state.specs.Layout.{vectorBytes, stateBytes}
-use Rattle.keeping.specs.Keeping.{keptState, countedState}
+use Rattle.keeping.specs.Keeping.{keptState}
+use Rattle.counting.specs.Counting.{countedState}
 use Rattle.absorb.specs.Absorbing.{absorbedAs, taken, takes, absorption, passIn}
 use Rattle.space.proofs.Both.{both}
 

@@ -9,7 +9,8 @@ use Rattle.places.specs.Places.{mostRows}
 use Rattle.basis.specs.Algorithm2.{Pass, pass}
 use Rattle.tally.specs.Tally.{mostKept, tailBytes}
 use Rattle.state.specs.Layout.{vectorBytes, stateBytes, slotsIn}
-use Rattle.keeping.specs.Keeping.{keptState, countedState}
+use Rattle.keeping.specs.Keeping.{keptState}
+use Rattle.counting.specs.Counting.{countedState}
 use Rattle.absorb.specs.declared.Absorbed.{Absorbed}
 use Rattle.absorb.specs.declared.Absorbed.the-variants.{Kept, Other, Misfit}
 

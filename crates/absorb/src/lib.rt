@@ -24,7 +24,7 @@ fn attempt(work: &mut [u8], row: &[u8], state: &[u8]) -> usize
 {
     let key = row.len();
     octets::copy(work, row);
-    match keeping::reduce(work, state, key) {
+    match reducing::reduce(work, state, key) {
         Reduced::Stopped(t) => t,
         Reduced::Spent => 8 * key,
         Reduced::Misfit => 8 * key,
@@ -40,7 +40,7 @@ fn take_in(state: &mut [u8], work: &mut [u8], row: &[u8], arrival: Arrival, rank
     let key = row.len();
     let t = attempt(work, row, state);
     if 8 * key <= t {
-        keeping::count(state, &work[tally::TAIL..slotting::VECTOR], arrival, rank);
+        counting::count(state, &work[tally::TAIL..slotting::VECTOR], arrival, rank);
         return Absorbed::Other;
     }
     if rank < tally::MOST_KEPT {

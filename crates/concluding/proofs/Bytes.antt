@@ -17,7 +17,8 @@ use Rattle.basis.specs.Algorithm2.{Pass}
 use Rattle.tally.specs.Tally.{mostKept}
 use Rattle.state.specs.Layout.{orderAt, stateBytes, orderIn}
 use Rattle.state.specs.Written.{emptied}
-use Rattle.keeping.specs.Keeping.{headOf, placedState, rowKept, keeps, keptState, rowCounted, tallies, countedState}
+use Rattle.keeping.specs.Keeping.{headOf, placedState, rowKept, keeps, keptState}
+use Rattle.counting.specs.Counting.{rowCounted, tallies, countedState}
 use Rattle.absorb.specs.declared.Absorbed.the-variants.{Misfit}
 use Rattle.absorb.specs.Absorbing.{Absorption, absorbedAs, passIn, taken, takes, absorption}
 use Rattle.echelon.specs.Eliminating.{Elimination, Eliminating, oneMore, absorbIn, eliminates, elimination}

@@ -9,7 +9,8 @@ use lib.ListN.{length}
 use Rattle.basis.specs.Algorithm2.{Pass}
 use Rattle.tally.specs.Tally.{mostKept}
 use Rattle.state.specs.Layout.{orderIn}
-use Rattle.keeping.specs.Keeping.{keptState, countedState}
+use Rattle.keeping.specs.Keeping.{keptState}
+use Rattle.counting.specs.Counting.{countedState}
 use Rattle.views.proofs.KeptRow.{kept-length, kept-order}
 use Rattle.views.proofs.CountedRow.{counted-length, counted-order}
 use Rattle.absorb.specs.declared.Absorbed.the-variants.{Misfit}

@@ -8,7 +8,8 @@ use borrow.Author.Tests.{ltb-false}
 use Rattle.space.specs.Space.{spans}
 use Rattle.rows.specs.Rows.{rowBytes}
 use Rattle.reading.specs.Reading.{keptRows, rank}
-use Rattle.keeping.specs.Keeping.{keptState, countedState}
+use Rattle.keeping.specs.Keeping.{keptState}
+use Rattle.counting.specs.Counting.{countedState}
 use Rattle.absorb.specs.declared.Absorbed.the-variants.{Kept, Other}
 use Rattle.absorb.specs.Absorbing.{Absorption, absorbedAs, absorption}
 use Rattle.holding.specs.Holds.{Holds, Offer}

@@ -20,7 +20,7 @@ use Rattle.basis.specs.Algorithm2.{digits, Pass, Working, counting, step}
 use Rattle.basis.proofs.Digits.{digits-mod}
 use Rattle.tally.specs.Tally.{mostKept, tailBytes}
 use Rattle.state.specs.Layout.{usesIn}
-use Rattle.keeping.specs.Keeping.{CountRoom, countedState}
+use Rattle.counting.specs.Counting.{CountRoom, countedState}
 use Rattle.state.proofs.Sizes.{sizes}
 use Rattle.views.proofs.CountedRow.{counted-length, counted-slots, counted-uses, counted-places}
 use Rattle.absorb.specs.Absorbing.{tailDigits}

@@ -1,3 +1,3 @@
 pub mod Fits
-pub mod Back
+pub mod Heads
 pub mod Settled

@@ -1,4 +1,4 @@
-// One row in a state: what slots leave of it, and then it is kept, or its uses are counted.
+// How a state is written where a row is kept: its vector in a slot, its head, and the kept place that its arrival is given.
 ghost use mathlib.Core.Path.{_≡_};
 ghost use Prim.Native.Nat.{_*_, _^_, _≤_, _<_};
 ghost use lib.ListN.{length};
@@ -6,33 +6,11 @@ ghost use Rattle.space.specs.Space.{_⊕_};
 ghost use Rattle.octets.specs.Octets.{number, bytes, lay};
 ghost use Rattle.places.specs.Places.{mostRows};
 ghost use Rattle.tally.specs.Tally.{mostKept};
-ghost use Rattle.slots.specs.Reducing.{reduceAnswer, reduceWork};
 ghost use Rattle.slotting.specs.Slotting.{headOf};
 ghost use Rattle.state.specs.Layout.{vectorBytes, stateBytes};
-ghost use Rattle.keeping.specs.Keeping.{headAt, placedState, KeepRoom, rowKept, keptState, CountRoom, rowCounted, countedState};
+ghost use Rattle.keeping.specs.Keeping.{headAt, placedState, KeepRoom, rowKept, keptState};
 use places::Arrival;
 use places::KeptPlace;
-use slots::Reduced;
-
-// ---- the slots
-
-// Where the heads are told, as far as the state has them. They make reducing faster, and whatever they hold, its answer is the same.
-fn heads(state: &[u8]) -> &[u8] {
-    if state.len() < state::BYTES {
-        return &state[..0];
-    }
-    &state[state::HEADS..state::ORDER]
-}
-
-// Takes slots off work until its key has no digit left, or one whose slot is empty.
-pub fn reduce(work: &mut [u8], state: &[u8], key: usize) -> Reduced
-    ensures answer { λ r. ⌜ r ≡ reduceAnswer key (now (state .entry)) (now (work .entry)) ⌝ }
-    ensures left { λ r. ⌜ now (work .exit) ≡ reduceWork key (now (state .entry)) (now (work .entry)) ⌝ }
-{
-    slots::reduce(work, state, heads(state), key)
-}
-
-// ---- one row more
 
 // The head of slot t, where reducing looks for it.
 fn put_head(state: &mut [u8], vector: &[u8], t: usize)
@@ -90,32 +68,4 @@ pub fn keep(state: &mut [u8], vector: &[u8], t: usize, arrival: Arrival, rank: u
         return;
     }
     keep_row(state, vector, t, arrival, rank);
-}
-
-fn count_row(state: &mut [u8], tail: &[u8], arrival: Arrival, rank: usize)
-    requires { ⌜ CountRoom (length (now tail)) (arrival .0) rank (length (now state)) ⌝ }
-    ensures { λ _. ⌜ now (state .exit) ≡ rowCounted (number (now (tail .entry))) (arrival .0) rank (now (state .entry)) ⌝ }
-{
-    let e = state::USES + 2 * rank;
-    tally::tally(&mut state[state::USES..e], tail, rank);
-    places::give_none(&mut state[state::PLACES..state::HEADS], arrival);
-}
-
-// Counts a use of each of the rows kept so far that the tail names, and gives the arrival no kept place. Nothing is written where they do not fit.
-pub fn count(state: &mut [u8], tail: &[u8], arrival: Arrival, rank: usize)
-    ensures { λ _. ⌜ now (state .exit) ≡ countedState (now (tail .entry)) (arrival .0) rank (now (state .entry)) ⌝ }
-{
-    if tail.len() != tally::TAIL {
-        return;
-    }
-    if places::MOST_ROWS <= arrival.0 {
-        return;
-    }
-    if tally::MOST_KEPT < rank {
-        return;
-    }
-    if state.len() < state::BYTES {
-        return;
-    }
-    count_row(state, tail, arrival, rank);
 }

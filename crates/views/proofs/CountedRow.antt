@@ -19,9 +19,9 @@ use Rattle.basis.specs.Algorithm2.{digits}
 use Rattle.tally.specs.Tally.{mostKept, tailBytes}
 use Rattle.tally.proofs.Uses.{length-raised}
 use Rattle.state.specs.Layout.{usesAt, placesAt, headsAt, orderAt, stateBytes, slotsIn, usesIn, placesIn, orderIn}
-use Rattle.keeping.specs.Keeping.{CountRoom, rowCounted, tallies, countedState}
+use Rattle.counting.specs.Counting.{CountRoom, rowCounted, tallies, countedState}
 use Rattle.state.proofs.Sizes.{sizes}
-use Rattle.keeping.proofs.Fits.{counted-is}
+use Rattle.counting.proofs.Fits.{counted-is}
 use Rattle.views.proofs.Laid.{unless, slots-stay, pairs-before, pairs-behind, pairs-set, pairs-anew}
 
 module _ (tail : List ℕ) (m r : ℕ) (state : List ℕ) (K : CountRoom (length tail) m r (length state)) where

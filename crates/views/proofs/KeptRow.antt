@@ -18,7 +18,7 @@ use Rattle.state.specs.Layout.{vectorBytes, usesAt, placesAt, headsAt, orderAt,
 use Rattle.keeping.specs.Keeping.{headAt, headOf, placedState, KeepRoom, rowKept, keeps, keptState}
 use Rattle.slotting.proofs.Fits.{length-headOf}
 use Rattle.state.proofs.Sizes.{sizes, slot-end}
-use Rattle.keeping.proofs.Back.{head-end}
+use Rattle.keeping.proofs.Heads.{head-end}
 use Rattle.keeping.proofs.Fits.{kept-is}
 use Rattle.views.proofs.Laid.{unless, slots-stay, pairs-before, pairs-behind, pairs-set, set-last, slot-set}
 

@@ -10,7 +10,8 @@ use Rattle.octets.specs.Octets.{number}
 use Rattle.basis.specs.Algorithm2.{Pass}
 use Rattle.tally.specs.Tally.{mostKept}
 use Rattle.state.specs.Layout.{vectorBytes}
-use Rattle.keeping.specs.Keeping.{keptState, countedState}
+use Rattle.keeping.specs.Keeping.{keptState}
+use Rattle.counting.specs.Counting.{countedState}
 use Rattle.state.proofs.Sizes.{sizes}
 use Rattle.absorb.specs.Absorbing.{Absorption, passIn}
 use Rattle.absorb.proofs.Absorbing.{Takes, takes-so, taken-other, taken-kept, taken-full}

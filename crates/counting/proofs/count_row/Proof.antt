@@ -7,13 +7,13 @@ use borrow.Rule.Slice.PartMut.{putMid}
 use Rattle.octets.specs.Octets.{bytes, lay}
 use Rattle.doubles.proofs.Doubles.{pair-part}
 use Rattle.state.specs.Layout.{usesAt, placesAt}
-use Rattle.keeping.specs.Keeping.{rowCounted}
+use Rattle.counting.specs.Counting.{rowCounted}
 use Rattle.state.proofs.Sizes.{sizes}
-use Rattle.keeping.proofs.Back.{counted-laid}
+use Rattle.counting.proofs.Back.{counted-laid}
 use native.Mathlib.Omega.{arith}
 use borrow.Author.Needs.{needs}
-use Rattle.keeping.proofs.count_row.Statement.{statement}
-use Rattle.keeping.proofs.count_row.Tie as tie
+use Rattle.counting.proofs.count_row.Statement.{statement}
+use Rattle.counting.proofs.count_row.Tie as tie
 
 mul-e : tie.Need-mul-e
 mul-e c = omega (arith, sizes, c .before .before .pre .rank)

@@ -5,10 +5,10 @@ use mathlib.Core.Path.{sym, _∙_}
 use lib.ListN.{length}
 use Rattle.tally.specs.Tally.{mostKept, tailBytes}
 use Rattle.state.specs.Layout.{stateBytes}
-use Rattle.keeping.specs.Keeping.{CountRoom}
-use Rattle.keeping.proofs.Fits.{no-tail, counted-late, counted-many, counted-short, counted-is}
-use Rattle.keeping.proofs.count.Statement.{statement}
-use Rattle.keeping.proofs.count.Tie as tie
+use Rattle.counting.specs.Counting.{CountRoom}
+use Rattle.counting.proofs.Fits.{no-tail, counted-late, counted-many, counted-short, counted-is}
+use Rattle.counting.proofs.count.Statement.{statement}
+use Rattle.counting.proofs.count.Tie as tie
 
 returns : tie.Need-returns
 unfolding tailBytes
