@@ -15,7 +15,7 @@ use Rattle.rows.proofs.Lists.{length-entriesOf}
 use Rattle.reading.specs.Orders.{arrivals, counts, inListOrder}
 use Rattle.reading.proofs.Counted.{length-counts}
 use Rattle.state.specs.Layout.{stateBytes}
-use Rattle.state.specs.Written.{orderedState, notedState}
+use Rattle.noting.specs.Noting.{orderedState, notedState}
 use Rattle.repeats.specs.Repeats.{repeated}
 use Rattle.order.specs.Listed.{orderable, listed, takenOf, written, listedState, seedAt, takenNext, takenState}
 

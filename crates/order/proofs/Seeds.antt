@@ -21,8 +21,8 @@ use Rattle.lists.proofs.Rows.{entry-below, entry-room, entry-length, entry-numb
 use Rattle.reading.specs.Orders.{among}
 use Rattle.reading.proofs.Among.{among-mem}
 use Rattle.repeats.specs.Repeats.{repeated}
-use Rattle.state.specs.Written.{notedIn}
-use Rattle.state.proofs.Fits.{noted-is}
+use Rattle.noting.specs.Noting.{notedIn}
+use Rattle.noting.proofs.Fits.{noted-is}
 use Rattle.order.specs.Listed.{seedsNoted, Next, seedAt}
 
 -- ---- the filter

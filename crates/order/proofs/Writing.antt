@@ -22,9 +22,9 @@ use Rattle.rows.proofs.Lists.{length-entriesOf}
 use Rattle.reading.specs.Orders.{countsAfter, counts, inListOrder}
 use Rattle.reading.proofs.Listed.{listed-snoc}
 use Rattle.state.specs.Layout.{orderAt, filterAt, stateBytes, filterIn}
-use Rattle.state.specs.Written.{orderedState, forgotten, notedState}
+use Rattle.noting.specs.Noting.{orderedState, forgotten, notedState}
 use Rattle.state.proofs.Sizes.{sizes}
-use Rattle.state.proofs.Fits.{ordered-is, forgotten-is, noted-is}
+use Rattle.noting.proofs.Fits.{ordered-is, forgotten-is, noted-is}
 use Rattle.repeats.specs.Repeats.{repeated}
 use Rattle.order.specs.Listed.{listed, seedsNoted, written, Next, seedAt, takenNext, takenState}
 use Rattle.order.proofs.Listed.{length-order}

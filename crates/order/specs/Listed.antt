@@ -12,7 +12,7 @@ use Rattle.rows.specs.Rows.{rowCount, entriesOf, seed}
 use Rattle.reading.specs.Orders.{inListOrder}
 use Rattle.repeats.specs.Repeats.{repeated}
 use Rattle.state.specs.Layout.{orderAt, filterAt, stateBytes, filterIn}
-use Rattle.state.specs.Written.{orderedState, notedState}
+use Rattle.noting.specs.Noting.{orderedState, notedState}
 
 -- Whether the arrivals of so many rows can stand in a state of so many bytes.
 unfoldable pub orderable : ℕ → ℕ → Bool

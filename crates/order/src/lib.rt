@@ -8,7 +8,7 @@ ghost use Rattle.rows.specs.Rows.{rowCount, entriesOf};
 ghost use Rattle.lists.specs.Lists.{entryAt};
 ghost use Rattle.repeats.specs.Repeats.{repeated};
 ghost use Rattle.state.specs.Layout.{stateBytes, arrivalAt};
-ghost use Rattle.state.specs.Written.{notedState};
+ghost use Rattle.noting.specs.Noting.{notedState};
 ghost use Rattle.order.specs.Listed.{orderable, listed, takenOf, written, listedState, Next, seedAt, takenNext, takenState};
 use places::Arrival;
 
@@ -35,7 +35,7 @@ fn is_repeat(list: &[u8], l: u8, state: &mut [u8], arrival: Arrival) -> bool
     ensures answer { λ r. ⌜ r ≡ repeated l (arrival .0) (now (list .entry)) ⌝ }
     ensures state { λ r. ⌜ now (state .exit) ≡ notedState (seedAt l (now (list .entry)) (arrival .0)) (now (state .entry)) ⌝ }
 {
-    if state::note(state, seed(list, l, arrival)) {
+    if noting::note(state, seed(list, l, arrival)) {
         return repeats::is_repeat(list, l, arrival);
     }
     false
@@ -50,7 +50,7 @@ fn take_row(list: &[u8], l: u8, state: &mut [u8], i: usize, taken: usize) -> usi
     if is_repeat(list, l, state, Arrival(i)) {
         return taken;
     }
-    state::put_arrival(state, taken, Arrival(i));
+    noting::put_arrival(state, taken, Arrival(i));
     taken + 1
 }
 
@@ -60,7 +60,7 @@ fn take_each(list: &[u8], l: u8, state: &mut [u8], m: usize) -> usize
     ensures answer { λ r. ⌜ r ≡ length (listed l (now (list .entry))) ⌝ }
     ensures state { λ r. ⌜ now (state .exit) ≡ written l (entriesOf l (now (list .entry))) (now (state .entry)) ⌝ }
 {
-    state::forget(state);
+    noting::forget(state);
     let mut taken: usize = 0;
     for i in 0..m {
         taken = take_row(list, l, state, i, taken);

@@ -1,6 +1,6 @@
 -- Each contract of this crate settles the result and every lent byte.
 -- Assumes nothing.
-use mathlib.Core.Path.{_≡_, sym, ap, ap₂, _∙_}
+use mathlib.Core.Path.{_≡_, sym, ap, _∙_}
 use contract.Lifetimes.{Lfts}
 use denote.Ref.{now, ptr}
 use borrow.Fn.Kinds.{Dens}
@@ -12,23 +12,8 @@ use Rattle.state.proofs.places.Kinds as places
 use Rattle.state.proofs.places.Reads as places-contract
 use Rattle.state.proofs.order.Kinds as order
 use Rattle.state.proofs.order.Reads as order-contract
-use Rattle.state.proofs.put_arrival.Kinds as put-arrival
-use Rattle.state.proofs.put_arrival.Reads as put-arrival-contract
-use Rattle.state.proofs.forget.Kinds as forget
-use Rattle.state.proofs.forget.Reads as forget-contract
-use Rattle.state.proofs.note.Kinds as note
-use Rattle.state.proofs.note.Reads as note-contract
 use Rattle.state.proofs.clear.Kinds as clear
 use Rattle.state.proofs.clear.Reads as clear-contract
-
-pub put-arrival-settled : Settles put-arrival.ps put-arrival.r put-arrival-contract.Post
-put-arrival-settled κs args = unique (λ o is. ap (λ v. (tt, (v, (tt, (tt, tt))))) is)
-
-pub forget-settled : Settles forget.ps forget.r forget-contract.Post
-forget-settled κs args = unique (λ o is. ap (λ v. (tt, (v, tt))) is)
-
-pub note-settled : Settles note.ps note.r note-contract.Post
-note-settled κs args = unique (λ o is. ap₂ (λ r v. (r, (v, (tt, tt)))) (is .0) (is .1))
 
 pub clear-settled : Settles clear.ps clear.r clear-contract.Post
 clear-settled κs args = unique (λ o is. ap (λ v. (tt, (v, tt))) is)

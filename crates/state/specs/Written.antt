@@ -1,34 +1,12 @@
--- What is written in a state: `clear`, `put_arrival`, `forget` and `note` of the code.
-use Prim.Native.Nat.{ℕ, _+_, _*_}
-use mathlib.Core.Bool.{Bool, true, cond, _&&_}
+-- What is written in a state where it is made empty: `clear` of the code.
+use Prim.Native.Nat.{ℕ}
+use mathlib.Core.Bool.{cond}
 use mathlib.Core.List.{List}
-use lib.Dec.{leb, ltb}
+use lib.Dec.{leb}
 use lib.ListN.{length, replicate}
-use Rattle.octets.specs.Octets.{bytes, over, lay}
-use Rattle.places.specs.Places.{mostRows}
-use Rattle.filter.specs.Filter.{filterBytes, noted, note}
-use Rattle.state.specs.Layout.{orderAt, filterAt, stateBytes, filterIn}
+use Rattle.octets.specs.Octets.{over}
+use Rattle.state.specs.Layout.{orderAt, stateBytes}
 
 -- A state with no rows; the order and all bytes behind it stay.
 unfoldable pub emptied : List ℕ → List ℕ
 emptied state = cond (leb stateBytes (length state)) (over (replicate orderAt 0) state) state
-
--- Whether arrival m can stand at place i of the order in a state of so many bytes; and the state with it there.
-unfoldable pub orders : ℕ → ℕ → ℕ → Bool
-orders i m room = ltb i mostRows && (ltb m mostRows && leb stateBytes room)
-
-unfoldable pub orderedState : ℕ → ℕ → List ℕ → List ℕ
-orderedState i m state = cond (orders i m (length state)) (lay (orderAt + 2 * i) (bytes 2 m) state) state
-
--- ---- the filter of seeds
-
--- A state in which no seed is noted.
-unfoldable pub forgotten : List ℕ → List ℕ
-forgotten state = cond (leb stateBytes (length state)) (lay filterAt (replicate filterBytes 0) state) state
-
--- Whether a seed may have been noted in a state, and the state with it noted.
-unfoldable pub notedIn : ℕ → List ℕ → Bool
-notedIn seed state = cond (leb stateBytes (length state)) (noted seed (filterIn state)) true
-
-unfoldable pub notedState : ℕ → List ℕ → List ℕ
-notedState seed state = cond (leb stateBytes (length state)) (lay filterAt (note seed (filterIn state)) state) state

@@ -5,8 +5,7 @@ ghost use Prim.Native.Nat.{_+_, _*_, _≤_};
 ghost use Rattle.places.specs.Places.{mostRows};
 ghost use Rattle.tally.specs.Tally.{mostKept};
 ghost use Rattle.state.specs.Layout.{usesAt, placesAt, orderAt, stateBytes, partAt, part, usesPart, placesPart, orderPart};
-ghost use Rattle.state.specs.Written.{emptied, orderedState, forgotten, notedIn, notedState};
-use places::Arrival;
+ghost use Rattle.state.specs.Written.{emptied};
 
 // From 0 on the slots; where the uses, the kept places, the heads, the order and the filter begin; where the state ends.
 pub const USES: usize = 25600;
@@ -62,47 +61,6 @@ pub fn order(state: &[u8], taken: usize) -> &[u8]
     ensures points { λ r. ⌜ r .ptr ≡ (state .entry .ptr .0, partAt orderAt mostRows taken (now (state .entry)) + state .entry .ptr .1) ⌝ }
 {
     part(state, ORDER, places::MOST_ROWS, taken)
-}
-
-// ---- the order
-
-// Writes an arrival at place i of the order; nothing where there is no such place, or no list has such an arrival.
-pub fn put_arrival(state: &mut [u8], i: usize, arrival: Arrival)
-    ensures { λ _. ⌜ now (state .exit) ≡ orderedState i (arrival .0) (now (state .entry)) ⌝ }
-{
-    if places::MOST_ROWS <= i {
-        return;
-    }
-    if places::MOST_ROWS <= arrival.0 {
-        return;
-    }
-    if state.len() < BYTES {
-        return;
-    }
-    doubles::put_pair(&mut state[ORDER..FILTER], i, arrival.0 as u16);
-}
-
-// ---- the filter of seeds
-
-// Makes the filter empty: no seed is noted.
-pub fn forget(state: &mut [u8])
-    ensures { λ _. ⌜ now (state .exit) ≡ forgotten (now (state .entry)) ⌝ }
-{
-    if state.len() < BYTES {
-        return;
-    }
-    octets::clear(&mut state[FILTER..BYTES]);
-}
-
-// Notes a seed, and tells whether it may have been noted before; it may where the state is too short, and nothing is written.
-pub fn note(state: &mut [u8], seed: u32) -> bool
-    ensures answer { λ r. ⌜ r ≡ notedIn seed (now (state .entry)) ⌝ }
-    ensures state { λ r. ⌜ now (state .exit) ≡ notedState seed (now (state .entry)) ⌝ }
-{
-    if state.len() < BYTES {
-        return true;
-    }
-    filter::note(&mut state[FILTER..BYTES], seed)
 }
 
 // ---- no rows

@@ -14,9 +14,9 @@ use Rattle.octets.proofs.Numbers.{length-bytes}
 use Rattle.octets.proofs.Lay.{length-lay}
 use Rattle.tally.specs.Tally.{mostKept}
 use Rattle.state.specs.Layout.{usesAt, placesAt, orderAt, stateBytes, slotsIn, usesIn, placesIn, orderIn}
-use Rattle.state.specs.Written.{orders, orderedState}
+use Rattle.noting.specs.Noting.{orders, orderedState}
 use Rattle.state.proofs.Sizes.{sizes}
-use Rattle.state.proofs.Fits.{ordered-is}
+use Rattle.noting.proofs.Fits.{ordered-is}
 use Rattle.views.proofs.Laid.{unless, slots-stay, pairs-before, pairs-set}
 
 pub ordered-order : (i m n : ℕ) (state : List ℕ) → i < n → n ≤ 512 → m < 512 → stateBytes ≤ length state → orderIn n (orderedState i m state) ≡ set (orderIn n state) i m

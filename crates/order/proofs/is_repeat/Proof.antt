@@ -6,7 +6,7 @@ use mathlib.Core.Path.{_≡_, sym, ap, _∙_}
 use Prim.Native.Nat.{ℕ}
 use denote.Ref.{now}
 use Rattle.octets.proofs.Runs.{known-below}
-use Rattle.state.specs.Written.{notedIn, notedState}
+use Rattle.noting.specs.Noting.{notedIn, notedState}
 use Rattle.order.specs.Listed.{seedAt}
 use Rattle.order.proofs.Seeds.{seed-at, told-new}
 use Rattle.order.proofs.is_repeat.Statement.{statement}

@@ -4,7 +4,7 @@ use native.Mathlib.Omega.{arith}
 use borrow.Author.Needs.{needs}
 use mathlib.Core.Path.{_≡_, sym, ap, _∙_}
 use denote.Ref.{now}
-use Rattle.state.specs.Written.{orderedState}
+use Rattle.noting.specs.Noting.{orderedState}
 use Rattle.order.proofs.Listed.{left-out, taken-in}
 use Rattle.order.proofs.take_row.Statement.{statement}
 use Rattle.order.proofs.take_row.Tie as tie

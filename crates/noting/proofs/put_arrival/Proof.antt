@@ -4,10 +4,10 @@ use native.Mathlib.Omega.{arith}
 use borrow.Author.Needs.{needs}
 use mathlib.Core.Path.{sym, _∙_}
 use Rattle.doubles.proofs.Doubles.{pair-part}
 use Rattle.state.specs.Layout.{orderAt, stateBytes}
-use Rattle.state.proofs.Fits.{no-place, no-arrival, no-order, ordered-is}
-use Rattle.state.proofs.put_arrival.Statement.{statement}
-use Rattle.state.proofs.put_arrival.Tie as tie
+use Rattle.noting.proofs.Fits.{no-place, no-arrival, no-order, ordered-is}
+use Rattle.noting.proofs.put_arrival.Statement.{statement}
+use Rattle.noting.proofs.put_arrival.Tie as tie
 
 returns : tie.Need-returns
 returns c =

@@ -4,11 +4,11 @@ use native.Mathlib.Omega.{arith}
 use borrow.Author.Needs.{needs}
 use mathlib.Core.Path.{sym, _∙_}
 use Rattle.filter.specs.Filter.{filterBytes}
 use Rattle.state.specs.Layout.{filterAt, stateBytes}
-use Rattle.state.proofs.Fits.{not-forgotten, forgotten-is}
-use Rattle.state.proofs.Parts.{forgotten-laid}
-use Rattle.state.proofs.forget.Statement.{statement}
-use Rattle.state.proofs.forget.Tie as tie
+use Rattle.noting.proofs.Fits.{not-forgotten, forgotten-is}
+use Rattle.noting.proofs.Back.{forgotten-laid}
+use Rattle.noting.proofs.forget.Statement.{statement}
+use Rattle.noting.proofs.forget.Tie as tie
 
 returns : tie.Need-returns
 unfolding stateBytes

@@ -4,11 +4,11 @@ use native.Mathlib.Omega.{arith}
 use borrow.Author.Needs.{needs}
 use mathlib.Core.Path.{sym, _∙_}
 use Rattle.filter.specs.Filter.{filterBytes}
 use Rattle.state.specs.Layout.{filterAt, stateBytes, filterIn}
-use Rattle.state.proofs.Fits.{not-noted, noted-is}
-use Rattle.state.proofs.Parts.{seed-told, noted-laid}
-use Rattle.state.proofs.note.Statement.{statement}
-use Rattle.state.proofs.note.Tie as tie
+use Rattle.noting.proofs.Fits.{not-noted, noted-is}
+use Rattle.noting.proofs.Back.{seed-told, noted-laid}
+use Rattle.noting.proofs.note.Statement.{statement}
+use Rattle.noting.proofs.note.Tie as tie
 
 returns : tie.Need-returns
 unfolding stateBytes
