@@ -9,8 +9,8 @@ pub fn numbers_of(answers: Both) -> [u64; 8]
 {
     let one = answers.first;
     let other = answers.second;
-    let first = reading::numbers_of(one);
-    let second = reading::numbers_of(other);
+    let first = answer_numbers::numbers_of(one);
+    let second = answer_numbers::numbers_of(other);
     [
         first.rank as u64,
         first.place as u64,

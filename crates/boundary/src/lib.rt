@@ -24,7 +24,7 @@ pub extern "C" fn mekorvat_read_list(
         ≡ crossed n l (now (list .entry)) (buffers (now (page .entry)) (now (uses .entry)) (now (roles .entry)) (now (scratch .entry))) ⌝ }
 {
     let answer = reader::read_pairs(n, l, list, page, uses, roles, scratch);
-    let numbers = reading::numbers_of(answer);
+    let numbers = answer_numbers::numbers_of(answer);
     *rank = numbers.rank;
     *place = numbers.place;
     *agreement = numbers.agreement;
@@ -66,5 +66,5 @@ pub extern "C" fn mekorvat_read_both(
     );
     *numbers = both_numbers::numbers_of(answers);
     let first = answers.first;
-    reading::numbers_of(first).number
+    answer_numbers::numbers_of(first).number
 }

@@ -6,6 +6,7 @@ ghost use Rattle.rows.specs.Rows.{listRowBytes};
 ghost use Rattle.frame.specs.Reading.{reading};
 ghost use Rattle.frame.specs.Numbers.{frameNumbers};
 ghost use Rattle.laying.specs.Laying as laying;
+ghost use Rattle.telling.specs.Told.{toldBy};
 ghost use Rattle.boundary_frames.specs.Told.{framed, told};
 use places::Arrival;
 
@@ -23,7 +24,7 @@ pub extern "C" fn mekorvat_read_frame(
     ensures { λ r. ⌜ framed r (now (place .exit)) (now (page .exit)) (now (n .exit)) (now (l .exit)) (now (seed .exit)) (now (offset .exit))
         ≡ frameNumbers (reading (now (frame .entry))) ⌝ }
 {
-    let numbers = frame::numbers_of(frame::read(frame));
+    let numbers = telling::numbers_of(frame::read(frame));
     *place = numbers.place;
     *page = numbers.page;
     *n = numbers.n;
@@ -44,10 +45,10 @@ pub extern "C" fn mekorvat_lay(
     list: &mut [u8],
     place: &mut usize,
 ) -> u8
-    ensures told { λ r. ⌜ told r (now (place .exit)) ≡ laying.toldBy (laying.laid (now (frame .entry)) page n l arrival (now (list .entry))) ⌝ }
+    ensures told { λ r. ⌜ told r (now (place .exit)) ≡ toldBy (laying.laid (now (frame .entry)) page n l arrival (now (list .entry))) ⌝ }
     ensures list { λ r. ⌜ now (list .exit) ≡ laying.listAfter (laying.laid (now (frame .entry)) page n l arrival (now (list .entry))) (listRowBytes l * arrival) (laying.frameEntry (now (frame .entry))) (now (list .entry)) ⌝ }
 {
-    let told = laying::told_by(laying::lay(frame, page, n, l, Arrival(arrival), list));
+    let told = telling::told_by(laying::lay(frame, page, n, l, Arrival(arrival), list));
     *place = told.place;
     told.number
 }

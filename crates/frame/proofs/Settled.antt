@@ -10,14 +10,9 @@ use Rattle.frame.proofs.read.Kinds as read
 use Rattle.frame.proofs.read.Reads as read-contract
 use Rattle.frame.proofs.payload.Kinds as payload
 use Rattle.frame.proofs.payload.Reads as payload-contract
-use Rattle.frame.proofs.numbers.numbers_of.Kinds as numbers-of
-use Rattle.frame.proofs.numbers.numbers_of.Reads as numbers-of-contract
 
 pub read-settled : Settles read.ps read.r read-contract.Post
 read-settled κs args = unique (λ o is. ap (λ r. (r, (tt, tt))) is)
-
-pub numbers-of-settled : Settles numbers-of.ps numbers-of.r numbers-of-contract.Post
-numbers-of-settled κs args = unique (λ o is. ap (λ r. (r, (tt, tt))) is)
 
 -- Where the part that `payload` hands back points, and what it shows. (Its ghost name, the third thing of a reference in the logic, is
 -- nothing that a program can see.)

@@ -7,7 +7,7 @@ use lib.Dec.{eqb}
 use lib.ListN.{take, drop}
 use Rattle.frame.specs.declared.Frame.{Frame}
 use Rattle.frame.specs.declared.Frame.the-variants.{Good, Short, WrongTag, WrongLength, OutOfRange, Trailing}
-use Rattle.frame.specs.declared.numbers.Numbers.{Numbers}
+use Rattle.frame.specs.declared.Numbers.{Numbers}
 use Rattle.frame.specs.Layout.{shapeAt, payloadAt}
 use Rattle.frame.specs.Reading.{reading}
 

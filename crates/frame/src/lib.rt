@@ -6,15 +6,12 @@ ghost use Rattle.frame.specs.Numbers.{offsetOf, payloadOf};
 
 mod fields;
 pub mod layout;
-mod numbers;
 mod parse;
 
 use field::Found;
 use fields::refuse;
 use layout::PAGE_AT;
 use layout::PAYLOAD;
-pub use numbers::Numbers;
-pub use numbers::numbers_of;
 
 // The answer of reading; specs/Numbers.antt gives document 01's number, place and values for each case.
 pub enum Frame {
@@ -24,6 +21,17 @@ pub enum Frame {
     WrongLength(usize),
     OutOfRange,
     Trailing(usize),
+}
+
+// What a reading gives as numbers; the payload is the part of l bytes at the offset.
+pub struct Numbers {
+    pub number: u8,
+    pub place: usize,
+    pub page: u32,
+    pub n: u8,
+    pub l: u8,
+    pub seed: u32,
+    pub offset: usize,
 }
 
 // Reads a frame, left to right.

@@ -52,7 +52,7 @@ fn numbers(numbers: Numbers) {
 
 // The numbers, and the payload.
 pub(crate) fn reading(frame: &[u8]) {
-    numbers(frame::numbers_of(frame::read(frame)));
+    numbers(telling::numbers_of(frame::read(frame)));
     let payload = frame::payload(frame);
     if payload.len() == 0 {
         io::write_all(STDOUT_FILENO, b"-");
@@ -71,7 +71,7 @@ fn laying_in(list: &mut [u8], frame: &[u8], b: Base, arrival: usize, size: usize
         Arrival(arrival),
         &mut list[0..size],
     );
-    let told = laying::told_by(answer);
+    let told = telling::told_by(answer);
     number(told.number as u64);
     number(told.place as u64);
     bytes(&list[0..size]);

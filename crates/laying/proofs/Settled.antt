@@ -1,6 +1,5 @@
 -- Each contract of this crate settles the answer and every lent byte.
 -- Assumes nothing.
-use mathlib.Core.Path.{ap}
 use Prim.Native.Nat.{_*_}
 use denote.Ref.{now}
 use Rattle.octets.specs.Settles.{Settles}
@@ -9,14 +8,9 @@ use Rattle.rows.specs.Rows.{listRowBytes}
 use Rattle.laying.specs.Laying.{listAfter, frameEntry}
 use Rattle.laying.proofs.lay.Kinds as lay
 use Rattle.laying.proofs.lay.Reads as lay-contract
-use Rattle.laying.proofs.told_by.Kinds as told-by
-use Rattle.laying.proofs.told_by.Reads as told-by-contract
 
 pub lay-settled : Settles lay.ps lay.r lay-contract.Post
 lay-settled κs args =
     unique (λ o is. decided (λ r v. (r, (tt, (tt, (tt, (tt, (tt, (v, tt))))))))
     (λ r. listAfter r (listRowBytes (args .1 .1 .1 .0) * args .1 .1 .1 .1 .0 .0) (frameEntry (now (args .0))) (now (args .1 .1 .1 .1 .1 .0)))
     (is .0) (is .1))
-
-pub told-by-settled : Settles told-by.ps told-by.r told-by-contract.Post
-told-by-settled κs args = unique (λ o is. ap (λ r. (r, (tt, tt))) is)

@@ -12,7 +12,6 @@ use Rattle.draw.specs.Draw.{constraint}
 use Rattle.frame.specs.declared.Frame.{Frame}
 use Rattle.laying.specs.declared.Laid.{Laid}
 use Rattle.laying.specs.declared.Laid.the-variants.{Row, Shape, Refused, OtherPage, Full, Room}
-use Rattle.laying.specs.declared.Told.{Told}
 use Rattle.frame.specs.Reading.{reading}
 use Rattle.frame.specs.Numbers as frames
 
@@ -32,9 +31,6 @@ placeOf (Refused f) = frames.placeOf f
 placeOf OtherPage = 0
 placeOf Full = 0
 placeOf Room = 0
-
-abbrev pub toldBy : Laid → Told
-toldBy a = record { number = numberOf a; place = placeOf a }
 
 -- "16 other page, if page number, n or L differ".
 unfoldable pub samePage : Frame → ℕ → ℕ → ℕ → Bool

@@ -8,7 +8,7 @@ ghost use Rattle.octets.specs.Octets.{bytes};
 ghost use Rattle.rows.specs.Rows.{shape, seedBytes, entryHeadBytes, listRowBytes};
 ghost use Rattle.draw.specs.Draw.{constraint};
 ghost use Rattle.frame.specs.Numbers.{payloadOf};
-ghost use Rattle.laying.specs.Laying.{placing, laid, frameEntry, listAfter, toldBy};
+ghost use Rattle.laying.specs.Laying.{placing, laid, frameEntry, listAfter};
 use draw::Drawn;
 use frame::Frame;
 use places::Arrival;
@@ -21,12 +21,6 @@ pub enum Laid {
     OtherPage,
     Full,
     Room,
-}
-
-// Document 01's number and place of an answer.
-pub struct Told {
-    pub number: u8,
-    pub place: usize,
 }
 
 // "2, arrival number over 511".
@@ -99,39 +93,4 @@ pub fn lay(frame: &[u8], page_number: u32, n: u8, l: u8, arrival: Arrival, list:
         return Laid::OtherPage;
     }
     lay_row(frame, n, l, seed, arrival, list)
-}
-
-// The number and place of an answer; a refusal of the frame is passed on.
-pub fn told_by(answer: Laid) -> Told
-    ensures { λ r. ⌜ r ≡ toldBy answer ⌝ }
-{
-    match answer {
-        Laid::Row => Told {
-            number: 0,
-            place: 0,
-        },
-        Laid::Shape => Told {
-            number: 1,
-            place: 0,
-        },
-        Laid::Refused(found) => {
-            let numbers = frame::numbers_of(found);
-            Told {
-                number: numbers.number,
-                place: numbers.place,
-            }
-        }
-        Laid::OtherPage => Told {
-            number: 16,
-            place: 0,
-        },
-        Laid::Full => Told {
-            number: 2,
-            place: 0,
-        },
-        Laid::Room => Told {
-            number: 3,
-            place: 0,
-        },
-    }
 }

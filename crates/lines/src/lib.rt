@@ -58,7 +58,7 @@ fn line_of(number: u8, place: usize) -> Line
 fn line_of_frame(found: Frame) -> Line
     ensures { λ r. ⌜ r ≡ spec.result (frames.numberOf found) (frames.placeOf found) ⌝ }
 {
-    let numbers = frame::numbers_of(found);
+    let numbers = telling::numbers_of(found);
     line_of(numbers.number, numbers.place)
 }
 
@@ -66,7 +66,7 @@ fn line_of_frame(found: Frame) -> Line
 fn line_of_laid(answer: Laid) -> Line
     ensures { λ r. ⌜ r ≡ spec.result (laying.numberOf answer) (laying.placeOf answer) ⌝ }
 {
-    let told = laying::told_by(answer);
+    let told = telling::told_by(answer);
     line_of(told.number, told.place)
 }
 

@@ -83,7 +83,7 @@ fn put_answer(text: &mut [u8], at: usize, numbers: Numbers) -> usize
 
 // "The page line gives page number, n, L, rows laid, rank, answer number, agreement."
 pub(crate) fn answer(page: Page, rows: usize, answer: Answer) {
-    let numbers = reading::numbers_of(answer);
+    let numbers = answer_numbers::numbers_of(answer);
     let mut text = [0u8; 256];
     let at = put_page(&mut text, page, rows);
     let end = put_answer(&mut text, at, numbers);

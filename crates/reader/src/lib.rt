@@ -64,7 +64,7 @@ fn end_in_numbers(answer: Answer, rows: usize, uses: &mut [u16], scratch: &mut [
     ensures uses { λ _. ⌜ now (uses .exit) ≡ usesAfter (placesPart rows (now (scratch .entry))) (usesPart (answerNumbers answer .rank) (now (scratch .entry))) (now (uses .entry)) ⌝ }
     ensures scratch { λ _. ⌜ now (scratch .exit) ≡ over zeros (now (scratch .entry)) ⌝ }
 {
-    let rank = reading::numbers_of(answer).rank;
+    let rank = answer_numbers::numbers_of(answer).rank;
     marks::put_uses(
         state::places(scratch, rows),
         state::uses(scratch, rank),
@@ -79,7 +79,7 @@ fn end_in_pairs(answer: Answer, rows: usize, uses: &mut [u8], scratch: &mut [u8]
     ensures uses { λ _. ⌜ now (uses .exit) ≡ pairsAfter (placesPart rows (now (scratch .entry))) (usesPart (answerNumbers answer .rank) (now (scratch .entry))) (now (uses .entry)) ⌝ }
     ensures scratch { λ _. ⌜ now (scratch .exit) ≡ over zeros (now (scratch .entry)) ⌝ }
 {
-    let rank = reading::numbers_of(answer).rank;
+    let rank = answer_numbers::numbers_of(answer).rank;
     marks::put_pairs(
         state::places(scratch, rows),
         state::uses(scratch, rank),

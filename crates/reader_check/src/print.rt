@@ -9,7 +9,7 @@ fn number(x: u64) {
 }
 
 pub(crate) fn answer(answer: Answer) {
-    let numbers = reading::numbers_of(answer);
+    let numbers = answer_numbers::numbers_of(answer);
     number(numbers.number as u64);
     number(numbers.rank as u64);
     number(numbers.place as u64);

@@ -14,4 +14,3 @@ pub mod Writes
 pub mod Given
 pub mod Worked
 pub mod Frauds
-pub mod Settled

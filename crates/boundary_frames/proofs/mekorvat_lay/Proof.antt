@@ -5,7 +5,8 @@ use Prim.Native.Nat.{_*_}
 use denote.Ref.{now}
 use Rattle.rows.specs.Rows.{listRowBytes}
 use Rattle.laying.specs.declared.Laid.{Laid}
-use Rattle.laying.specs.Laying.{toldBy, listAfter, frameEntry}
+use Rattle.laying.specs.Laying.{listAfter, frameEntry}
+use Rattle.telling.specs.Told.{toldBy}
 use borrow.Author.Needs.{needs}
 use Rattle.boundary_frames.proofs.mekorvat_lay.Statement.{statement}
 use Rattle.boundary_frames.proofs.mekorvat_lay.Tie as tie

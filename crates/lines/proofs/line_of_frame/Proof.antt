@@ -1,7 +1,7 @@
 -- `lines::line_of_frame` meets its contract.
 -- Assumes nothing.
 use mathlib.Core.Path.{ap, _∙_}
-use Rattle.frame.specs.declared.numbers.Numbers.{Numbers}
+use Rattle.frame.specs.declared.Numbers.{Numbers}
 use Rattle.lines.specs.Taking.{result}
 use borrow.Author.Needs.{needs}
 use Rattle.lines.proofs.line_of_frame.Statement.{statement}

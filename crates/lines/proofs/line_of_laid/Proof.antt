@@ -1,7 +1,7 @@
 -- `lines::line_of_laid` meets its contract.
 -- Assumes nothing.
 use mathlib.Core.Path.{ap, _∙_}
-use Rattle.laying.specs.declared.Told.{Told}
+use Rattle.telling.specs.declared.Told.{Told}
 use Rattle.lines.specs.Taking.{result}
 use borrow.Author.Needs.{needs}
 use Rattle.lines.proofs.line_of_laid.Statement.{statement}

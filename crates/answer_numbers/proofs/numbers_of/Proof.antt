@@ -1,10 +1,10 @@
--- `reading::numbers_of` meets its contract: each arm of its match is a clause of the definition.
+-- `answer_numbers::numbers_of` meets its contract: each arm of its match is a clause of the definition.
 -- Assumes nothing.
 use mathlib.Core.Path.{sym, ap, _∙_}
 use Rattle.reading.specs.Answer.{answerNumbers}
 use borrow.Author.Needs.{needs}
-use Rattle.reading.proofs.numbers_of.Statement.{statement}
-use Rattle.reading.proofs.numbers_of.Tie as tie
+use Rattle.answer_numbers.proofs.numbers_of.Statement.{statement}
+use Rattle.answer_numbers.proofs.numbers_of.Tie as tie
 
 enum-told : tie.Need-enum-told
 enum-told c = search needs

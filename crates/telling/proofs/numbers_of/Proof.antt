@@ -1,10 +1,10 @@
--- `frame::numbers::numbers_of` meets its contract: each arm of its match is a clause of the definition.
+-- `telling::numbers_of` meets its contract: each arm of its match is a clause of the definition.
 -- Assumes nothing.
 use mathlib.Core.Path.{sym, ap, _∙_}
 use Rattle.frame.specs.Numbers.{frameNumbers}
 use borrow.Author.Needs.{needs}
-use Rattle.frame.proofs.numbers.numbers_of.Statement.{statement}
-use Rattle.frame.proofs.numbers.numbers_of.Tie as tie
+use Rattle.telling.proofs.numbers_of.Statement.{statement}
+use Rattle.telling.proofs.numbers_of.Tie as tie
 
 enum-known-found : tie.Need-enum-known-found
 enum-known-found c = search needs

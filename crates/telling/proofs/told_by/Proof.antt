@@ -1,12 +1,13 @@
--- `laying::told_by` meets its contract: each arm of its match is a clause of the definition.
+-- `telling::told_by` meets its contract: each arm of its match is a clause of the definition.
 -- Assumes nothing.
 use mathlib.Core.Path.{sym, ap, _∙_}
-use Rattle.frame.specs.declared.numbers.Numbers.{Numbers}
-use Rattle.laying.specs.declared.Told.{Told}
-use Rattle.laying.specs.Laying.{numberOf, placeOf, toldBy}
+use Rattle.frame.specs.declared.Numbers.{Numbers}
+use Rattle.telling.specs.declared.Told.{Told}
+use Rattle.laying.specs.Laying.{numberOf, placeOf}
+use Rattle.telling.specs.Told.{toldBy}
 use borrow.Author.Needs.{needs}
-use Rattle.laying.proofs.told_by.Statement.{statement}
-use Rattle.laying.proofs.told_by.Tie as tie
+use Rattle.telling.proofs.told_by.Statement.{statement}
+use Rattle.telling.proofs.told_by.Tie as tie
 
 enum-told : tie.Need-enum-told
 enum-told c = search needs
