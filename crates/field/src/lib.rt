@@ -40,7 +40,7 @@ fn look(rest: &[u8], tag: u8, size: u8) -> Field
     if rest[0] != tag {
         return Field::WrongTag;
     }
-    if octets::get(&rest[LENGTH..MARK]) != size as u64 {
+    if numerals::get(&rest[LENGTH..MARK]) != size as u64 {
         return Field::WrongLength;
     }
     if rest.len() - MARK < size as usize {

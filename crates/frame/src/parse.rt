@@ -20,7 +20,7 @@ use field::expect;
 fn number_of(bytes: &[u8]) -> u32
     ensures { λ r. ⌜ r ≡ number (now (bytes .entry)) % 2 ^ 32 ⌝ }
 {
-    (octets::get(bytes) % 4294967296) as u32
+    (numerals::get(bytes) % 4294967296) as u32
 }
 
 // Behind the last field.

@@ -38,8 +38,8 @@ pub fn put_head(room: &mut [u8], seed: u32, constraint: u64)
     if room.len() < rows::HEAD {
         return;
     }
-    octets::put(&mut room[..rows::SEED], seed as u64);
-    octets::put(&mut room[rows::SEED..rows::HEAD], constraint);
+    numerals::put(&mut room[..rows::SEED], seed as u64);
+    numerals::put(&mut room[rows::SEED..rows::HEAD], constraint);
 }
 
 // Makes the row that page gives for constraint, with its seed in front, at the start of room.

@@ -11,10 +11,6 @@ use Rattle.octets.proofs.copy.Kinds as copy
 use Rattle.octets.proofs.copy.Reads as copy-contract
 use Rattle.octets.proofs.least.Kinds as least
 use Rattle.octets.proofs.least.Reads as least-contract
-use Rattle.octets.proofs.put.Kinds as put
-use Rattle.octets.proofs.put.Reads as put-contract
-use Rattle.octets.proofs.get.Kinds as get
-use Rattle.octets.proofs.get.Reads as get-contract
 
 pub add-settled : Settles add.ps add.r add-contract.Post
 add-settled κs args = unique (λ o is. ap (λ v. (tt, (v, (tt, tt)))) is)
@@ -24,12 +20,6 @@ clear-settled κs args = unique (λ o is. ap (λ v. (tt, (v, tt))) is)
 
 pub copy-settled : Settles copy.ps copy.r copy-contract.Post
 copy-settled κs args = unique (λ o is. ap (λ v. (tt, (v, (tt, tt)))) is)
-
-pub put-settled : Settles put.ps put.r put-contract.Post
-put-settled κs args = unique (λ o is. ap (λ v. (tt, (v, (tt, tt)))) is)
-
-pub get-settled : Settles get.ps get.r get-contract.Post
-get-settled κs args = unique (λ o is. ap (λ r. (r, (tt, tt))) is)
 
 pub least-settled : Settles least.ps least.r least-contract.Post
 least-settled κs args = unique (λ o is. ap (λ r. (r, (tt, (tt, tt)))) is)

@@ -1,8 +1,8 @@
-// Bytes and the numbers that they stand for.
+// Bytes, many at a time: added, cleared, copied. What number they stand for is defined here too.
 ghost use mathlib.Core.Path.{_≡_};
-ghost use Prim.Native.Nat.{min, _%_, _^_};
+ghost use Prim.Native.Nat.{min};
 ghost use lib.ListN.{length, take, replicate};
-ghost use Rattle.octets.specs.Octets.{number, bytes, addFront, over};
+ghost use Rattle.octets.specs.Octets.{addFront, over};
 
 // The lesser of two lengths.
 pub fn least(a: usize, b: usize) -> usize
@@ -45,30 +45,4 @@ pub fn copy(into: &mut [u8], from: &[u8])
         into[i] = from[i];
         i += 1;
     }
-}
-
-// Writes a number over the whole of into.
-pub fn put(into: &mut [u8], x: u64)
-    ensures { λ _. ⌜ now (into .exit) ≡ bytes (length (now (into .entry))) x ⌝ }
-{
-    let mut rest = x;
-    let mut i = into.len();
-    while 0 < i {
-        i -= 1;
-        into[i] = (rest % 256) as u8;
-        rest = rest / 256;
-    }
-}
-
-// The number that the last eight bytes stand for, or all of them where there are fewer.
-pub fn get(from: &[u8]) -> u64
-    ensures { λ r. ⌜ r ≡ number (now (from .entry)) % 2 ^ 64 ⌝ }
-{
-    let mut x: u64 = 0;
-    let mut i: usize = 0;
-    while i < from.len() {
-        x = (x << 8) | (from[i] as u64);
-        i += 1;
-    }
-    x
 }

@@ -12,7 +12,7 @@ fn unit(work: &mut [u8], k: usize)
     ensures { λ _. ⌜ now (work .exit) ≡ unitOf (length (now (work .entry))) k ⌝ }
 {
     octets::clear(work);
-    octets::put(&mut work[..8], 1u64 << k);
+    numerals::put(&mut work[..8], 1u64 << k);
 }
 
 // Writes symbol k over out. Where the pass stops is nothing to it: what is left in the payload is the symbol.

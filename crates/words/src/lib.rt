@@ -32,7 +32,7 @@ pub fn word(from: &[u8], i: usize) -> u64
         let e = i + 8;
         return eight(&from[i..e]);
     }
-    octets::get(&from[i..]) << (8 * (8 - left))
+    numerals::get(&from[i..]) << (8 * (8 - left))
 }
 
 // The number of the first four bytes; 0 where there are fewer.

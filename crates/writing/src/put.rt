@@ -17,7 +17,7 @@ fn put_mark(into: &mut [u8], tag: u8, size: usize)
     ensures { λ _. ⌜ now (into .exit) ≡ mark tag size ⌝ }
 {
     into[0] = tag;
-    octets::put(&mut into[1..], size as u64);
+    numerals::put(&mut into[1..], size as u64);
 }
 
 // A field whose value is a number.
@@ -26,7 +26,7 @@ fn put_field(into: &mut [u8], tag: u8, size: usize, value: u64)
     ensures { λ _. ⌜ now (into .exit) ≡ fieldBytes tag (bytes size value) ⌝ }
 {
     put_mark(&mut into[..MARK], tag, size);
-    octets::put(&mut into[MARK..], value);
+    numerals::put(&mut into[MARK..], value);
 }
 
 // The fields in front of the payload's.

@@ -1,4 +1,4 @@
--- `octets::put` meets its contract: a loop from the back that fills with the number's bytes; what is left of the number has the bytes to come.
+-- `numerals::put` meets its contract: a loop from the back that fills with the number's bytes; what is left of the number has the bytes to come.
 -- Assumes nothing.
 use mathlib.Core.Path.{_≡_, refl, sym, ap, _∙_}
 use mathlib.Core.List.{List}
@@ -7,12 +7,12 @@ use native.Mathlib.Nat.{div-one}
 use native.Mathlib.Omega.{arith}
 use lib.ListN.{length, set, length-set}
 use denote.Ref.{now}
 use Rattle.octets.specs.Octets.{bytes}
 use Rattle.octets.proofs.Numbers.{length-bytes}
 use Rattle.octets.proofs.Digits.{getD-bytes, rest-more}
 use Rattle.octets.proofs.Fill.{filled, filled-less, filled-whole}
-use Rattle.octets.proofs.put.Statement.{statement}
-use Rattle.octets.proofs.put.Tie as tie
+use Rattle.numerals.proofs.put.Statement.{statement}
+use Rattle.numerals.proofs.put.Tie as tie
 
 -- At index i the bytes from i on are written.
 record Written (old new : List ℕ) (x rest i : ℕ) : Type 0 where

@@ -1,14 +1,14 @@
--- `octets::get` meets its contract: at index i the word holds the number of the first i bytes, as far as it has room for it.
+-- `numerals::get` meets its contract: at index i the word holds the number of the first i bytes, as far as it has room for it.
 -- Assumes nothing.
 use mathlib.Core.Path.{_≡_, refl, ap, _∙_}
 use Prim.Native.Nat.{_-_, _%_, _^_, _≤_}
 use native.Mathlib.Omega.{arith}
 use lib.ListN.{length, take}
 use lib.Seq.{take-all}
 use Rattle.octets.specs.Octets.{number}
 use Rattle.octets.proofs.Digits.{word-more}
-use Rattle.octets.proofs.get.Statement.{statement}
-use Rattle.octets.proofs.get.Tie as tie
+use Rattle.numerals.proofs.get.Statement.{statement}
+use Rattle.numerals.proofs.get.Tie as tie
 
 abbrev Inv-loop : tie.InvT-loop
 Inv-loop from x₀ i₀ x i = (i ≤ length from) × (x ≡ number (take i from) % 2 ^ 64)
