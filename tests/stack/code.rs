@@ -77,6 +77,11 @@ fn jump(operands: &str, may_fall: bool) -> Option<Effect> {
 }
 
 fn x86(mnemonic: &str, operands: &str) -> Option<Effect> {
+    // Older listings name the width of what is always eight bytes.
+    let mnemonic = match mnemonic {
+        "pushq" | "popq" | "callq" | "retq" | "jmpq" => mnemonic.trim_end_matches('q'),
+        _ => mnemonic,
+    };
     let (source, into) = match operands.rsplit_once(',') {
         Some((source, into)) => (source, into),
         None => ("", operands),

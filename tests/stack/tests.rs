@@ -28,6 +28,12 @@ fn takes_and_gives_back() {
     ];
     assert_eq!(taken(X86, &lines), Ok((48, 48)));
     let lines = [
+        " 0:\tpushq  $0x1",
+        " 2:\tlea    0x8(%rsp),%rsp",
+        " 7:\tretq",
+    ];
+    assert_eq!(taken(X86, &lines), Ok((16, 16)));
+    let lines = [
         " 0:\tsub\tsp, sp, #0x70",
         " 4:\tstp\tx29, x30, [sp, #16]",
         " 8:\tadd\tsp, sp, #0x70",
