@@ -7,7 +7,7 @@ ghost use Rattle.frame.specs.Reading.{reading};
 ghost use Rattle.frame.specs.Numbers.{frameNumbers};
 ghost use Rattle.laying.specs.Laying as laying;
 ghost use Rattle.telling.specs.Told.{toldBy};
-ghost use Rattle.boundary_frames.specs.Told.{framed, told};
+ghost use Rattle.boundary_frames.specs.Framed.{framed, told};
 use places::Arrival;
 
 // Reads a frame: where its payload starts, and what the frame says.

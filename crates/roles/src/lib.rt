@@ -4,7 +4,7 @@ ghost use Prim.Native.Nat.{_<_};
 ghost use lib.ListN.{length, set};
 ghost use Rattle.doubles.specs.Doubles.{pairAt};
 ghost use Rattle.places.specs.Places.{givenBy};
-ghost use Rattle.roles.specs.Role as mark;
+ghost use Rattle.roles.specs.Role as spec;
 use choose::Choice;
 use places::Arrival;
 use places::Lookup;
@@ -13,7 +13,7 @@ use places::Lookup;
 
 // The fewest uses of a row that is marked as picked: "no 2 under 5 and 6".
 fn least_marked(choice: Choice) -> usize
-    ensures { λ r. ⌜ r ≡ mark.leastMarked choice ⌝ }
+    ensures { λ r. ⌜ r ≡ spec.leastMarked choice ⌝ }
 {
     match choice {
         Choice::Few => choose::NONE_PICKED,
@@ -23,14 +23,14 @@ fn least_marked(choice: Choice) -> usize
 }
 
 fn role(least: usize, uses: u16) -> u8
-    ensures { λ r. ⌜ r ≡ mark.role least uses ⌝ }
+    ensures { λ r. ⌜ r ≡ spec.role least uses ⌝ }
 {
     if least <= (uses as usize) { 2 } else { 1 }
 }
 
 // The role of the row at an arrival.
 fn role_at(places: &[u8], counts: &[u8], least: usize, arrival: Arrival) -> u8
-    ensures { λ r. ⌜ r ≡ mark.roleOf least (now (counts .entry)) (givenBy (pairAt (arrival .0) (now (places .entry)))) ⌝ }
+    ensures { λ r. ⌜ r ≡ spec.roleOf least (now (counts .entry)) (givenBy (pairAt (arrival .0) (now (places .entry)))) ⌝ }
 {
     match places::given(places, arrival) {
         Lookup::Place(place) => role(least, places::uses(counts, place)),
@@ -53,7 +53,7 @@ fn set_role(roles: &mut [u8], arrival: Arrival, role: u8)
 // The role of each row, from the bytes that tell the kept places of arrivals and those that count uses by kept place, 2 each.
 // Writes nothing where there is no room for each row.
 pub fn put_roles(places: &[u8], counts: &[u8], choice: Choice, roles: &mut [u8])
-    ensures { λ _. ⌜ now (roles .exit) ≡ mark.rolesAfter choice (now (places .entry)) (now (counts .entry)) (now (roles .entry)) ⌝ }
+    ensures { λ _. ⌜ now (roles .exit) ≡ spec.rolesAfter choice (now (places .entry)) (now (counts .entry)) (now (roles .entry)) ⌝ }
 {
     let rows = places.len() / 2;
     if roles.len() < rows {
