@@ -1,4 +1,5 @@
 // One row more in the state of an elimination: it is kept, or the uses that it makes of kept rows are counted.
+#![tactic(auto)]
 ghost use Rattle.std.specs.Prelude.{◌≡◌, true, ◌≤◌, length, replicate};
 ghost use Rattle.octets.specs.Octets.{number, bytes};
 ghost use Rattle.state.specs.Layout.{vector_bytes, state_bytes};
@@ -8,7 +9,7 @@ use places::Arrival;
 use slots::Reduced;
 
 // What became of a row; Misfit is for arguments that do not fit.
-#[derive(Drop)]
+#[derive(Clone, Copy)]
 pub enum Absorbed {
     Kept,
     Other,

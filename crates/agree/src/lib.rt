@@ -1,4 +1,5 @@
 // Whether a row agrees with a page, eight bytes at a time.
+#![tactic(auto)]
 ghost use Rattle.std.specs.Prelude.{◌≡◌, ◌/◌, ◌%◌, ◌^◌, ◌≤◌, ◌<◌, eqb, length};
 ghost use Rattle.octets.specs.Octets.{number};
 ghost use Rattle.rows.specs.Rows.{named};
@@ -6,7 +7,7 @@ ghost use Rattle.rows.specs.Bytes.{cut, bytes_agree};
 ghost use Rattle.agree.specs.Quads.{quad_of, quad_plus, quad_none};
 
 // Four words that cover 8 to 32 bytes, so that a sum of symbols stays in registers. Where there are fewer than 32, the words overlap.
-#[derive(Drop)]
+#[derive(Clone, Copy)]
 struct Quad {
     a: u64,
     b: u64,

@@ -1,4 +1,5 @@
 // Asks a store for its answer: the tail of a reading, from a copy of the working. The store stays as it is. Document 02, wish 5.
+#![tactic(auto)]
 ghost use Rattle.std.specs.Prelude.{◌≡◌, ◌≤◌, length, take};
 ghost use Rattle.octets.specs.Octets.{over};
 ghost use Rattle.places.specs.Places.{most_rows};
@@ -12,7 +13,7 @@ use reading::Answer;
 use store::{Head, Header};
 
 // The answer of asking, and how many rows the store has; specs/Asking.antt gives document 02's numbers for each case.
-#[derive(Drop)]
+#[derive(Clone, Copy)]
 pub enum Asked {
     Short,
     Header,

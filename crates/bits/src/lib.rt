@@ -1,4 +1,6 @@
 // The set bits of a number of 64 bits.
+#![tactic(auto)]
+
 ghost use Rattle.std.specs.Prelude.{◌≡◌, ◌-◌, ◌%◌, ◌^◌};
 ghost use Rattle.bits.specs.Bits.{highest, lowest};
 

@@ -1,5 +1,6 @@
 // Reads both versions of a page that was saved twice: the plain reading of a list, and one of the rows that do not agree with its page.
 // Document 02, wish 1.
+#![tactic(auto)]
 ghost use Rattle.std.specs.Prelude.{◌≡◌};
 ghost use Rattle.rows.specs.Rows.{entries_of};
 ghost use Rattle.rows.specs.Bytes.{cut};
@@ -11,7 +12,7 @@ ghost use Rattle.both.specs.Parts.{second, pair, Passing, second_ending, secondl
 use reading::Answer;
 
 // The answers of both readings, and how many rows the second list has.
-#[derive(Drop)]
+#[derive(Clone, Copy)]
 pub struct Both {
     pub first: Answer,
     pub second: Answer,

@@ -1,4 +1,5 @@
 // The checks 1 to 4 of a list, in their order: document 01, "Answer numbers of a reading".
+#![tactic(auto)]
 ghost use Rattle.std.specs.Prelude.{◌≡◌};
 ghost use Rattle.checks.specs.Checks.{check_of, all_checks};
 
@@ -7,7 +8,7 @@ use reading::Answer;
 use strays::Stray;
 
 // What the checks say: the list passes, or the first answer that applies.
-#[derive(Drop)]
+#[derive(Clone, Copy)]
 pub enum Checked {
     Refused(Answer),
     Passed,

@@ -1,11 +1,12 @@
 // Chooses rows by their uses: which kept rows are picked, or whether there is a tie.
+#![tactic(auto)]
 ghost use Rattle.std.specs.Prelude.{◌≡◌, cond, ◌+◌, ◌*◌, ◌<◌, leb};
 ghost use Rattle.space.specs.Lists.{count};
 ghost use Rattle.doubles.specs.Doubles.{pairs_in};
 ghost use Rattle.choose.specs.Pick as pick;
 
 // What the uses choose: too few rows, answer 5 of a reading; a tie, its answer 6; or the rows with this many uses or more.
-#[derive(Drop)]
+#[derive(Clone, Copy)]
 pub enum Choice {
     Few,
     Tie,

@@ -1,4 +1,6 @@
 // Numbers of two bytes, by their place in a run of them.
+#![tactic(auto)]
+
 ghost use Rattle.std.specs.Prelude.{◌≡◌};
 ghost use Rattle.doubles.specs.Doubles.{pair_at, put_pair};
 

@@ -1,16 +1,17 @@
 // Draws a constraint from a seed, by Bob Jenkins's small noncryptographic generator, 32-bit form.
+#![tactic(auto)]
 ghost use Rattle.std.specs.Prelude.{◌≡◌, ◌<◌, ◌≤◌};
 ghost use Rattle.draw.specs.Draw as spec;
 
 // The answer of a draw; specs/Draw.antt gives document 01's number and constraint for each case.
-#[derive(Drop)]
+#[derive(Clone, Copy)]
 pub enum Drawn {
     Constraint(u64),
     Shape,
 }
 
 // The generator's state.
-#[derive(Drop)]
+#[derive(Clone, Copy)]
 struct Generator {
     a: u32,
     b: u32,

@@ -1,4 +1,5 @@
 // Algorithm 2 over bytes: which rows of a list are kept, and how often each is used. Rows are taken in the order that stands in the state.
+#![tactic(auto)]
 ghost use Rattle.std.specs.Prelude.{◌≡◌, ◌<◌, ◌≤◌, length};
 ghost use Rattle.places.specs.Places.{most_rows};
 ghost use Rattle.state.specs.Layout.{state_bytes, order_in};
@@ -8,7 +9,7 @@ use absorb::Absorbed;
 use places::Arrival;
 
 // What came of eliminating a list: how many rows were kept.
-#[derive(Drop)]
+#[derive(Clone, Copy)]
 pub enum Eliminated {
     Rank(usize),
     Misfit,

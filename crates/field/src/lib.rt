@@ -1,4 +1,5 @@
 // One field of a frame, tag, length and value: whether it is whole where it is expected, and where the bad byte is if it is not. Document 01, "The frame".
+#![tactic(auto)]
 ghost use Rattle.std.specs.Prelude.{◌≡◌, ◌≤◌, length};
 ghost use Rattle.field.specs.Expected.{field_of, placed, expected};
 
@@ -8,7 +9,7 @@ pub const LENGTH: usize = 1;
 pub const MARK: usize = 3;
 
 // What the bytes that remain have in the place of a field.
-#[derive(Drop)]
+#[derive(Clone, Copy)]
 pub enum Field {
     Whole,
     Short,
@@ -17,7 +18,7 @@ pub enum Field {
 }
 
 // Why a frame is refused inside a field, and the place of that.
-#[derive(Drop)]
+#[derive(Clone, Copy)]
 pub enum Refusal {
     Short(usize),
     WrongTag(usize),
@@ -25,7 +26,7 @@ pub enum Refusal {
 }
 
 // A whole field, or what refuses the frame.
-#[derive(Drop)]
+#[derive(Clone, Copy)]
 pub enum Found {
     Whole,
     Refused(Refusal),

@@ -126,6 +126,7 @@ noted-later (other ∷ seeds) filter seed h was =
 -- a seed is noted that is among those which were
 pub noted_mem : (seeds filter : List ℕ) (seed : ℕ) → filter_bytes ≤ length filter → Memᴰ seed seeds → noted seed (noting seeds filter) ≡ true
 unfolding noting
+noted_mem [] filter seed h x'' = elim x'' [ ]
 noted_mem (other ∷ seeds) filter seed h (Memᴰ.head e) =
     noted-later seeds (note other filter) seed (omega (arith, length-note other filter)) (rw e (noted-note other filter h))
 noted_mem (other ∷ seeds) filter seed h (Memᴰ.tail m) = noted_mem seeds (note other filter) seed (omega (arith, length-note other filter)) m

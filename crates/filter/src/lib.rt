@@ -1,4 +1,6 @@
 // Which seeds were noted, as far as a filter can tell: one that was not noted is new for certain.
+#![tactic(auto)]
+
 ghost use Rattle.std.specs.Prelude.{◌≡◌, ◌≤◌, length};
 ghost use Rattle.filter.specs.Filter.{filter_bytes, is_set, with_set, noted, note_answer, note_filter};
 

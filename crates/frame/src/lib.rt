@@ -1,4 +1,5 @@
 // Reads frames: the bytes that one phone shows and another takes. Document 01, "The frame".
+#![tactic(auto)]
 ghost use Rattle.std.specs.Prelude.{◌≡◌, ◌+◌};
 ghost use Rattle.frame.specs.Reading.{reading};
 ghost use Rattle.frame.specs.Numbers.{offset_of, payload_of};
@@ -12,7 +13,7 @@ use fields::refuse;
 use layout::{PAGE_AT, PAYLOAD};
 
 // The answer of reading; specs/Numbers.antt gives document 01's number, place and values for each case.
-#[derive(Drop)]
+#[derive(Clone, Copy)]
 pub enum Frame {
     Good { page: u32, n: u8, l: u8, seed: u32 },
     Short(usize),
@@ -23,7 +24,7 @@ pub enum Frame {
 }
 
 // What a reading gives as numbers; the payload is the part of l bytes at the offset.
-#[derive(Drop)]
+#[derive(Clone, Copy)]
 pub struct Numbers {
     pub number: u8,
     pub place: usize,

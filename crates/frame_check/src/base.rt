@@ -1,7 +1,7 @@
 // The base frames of the tables, and what they are written from.
 ghost use Rattle.std.specs.Prelude.{◌≡◌, ◌≤◌, length};
 
-#[derive(Drop)]
+#[derive(Clone, Copy)]
 pub struct Base {
     pub page: u32,
     pub n: u8,

@@ -1,5 +1,6 @@
 // Prints the tables that docs/src/bin/frames.rs, lays.rs and makes.rs print, one after the other: frame readings, layings and rows made.
 // Parts name their start, as room[0..end]: then the checker finds by itself how long they are.
+#![tactic(auto)]
 ghost use Rattle.std.specs.Prelude.{◌≡◌, ◌+◌, ◌<◌, ◌≤◌, length};
 
 mod base;

@@ -1,4 +1,5 @@
 // Lays the rows of frames into a list. Document 01, "The frame": "Laying a frame into a list".
+#![tactic(auto)]
 ghost use Rattle.std.specs.Prelude.{◌≡◌, ◌+◌, ◌*◌, true, ◌++◌, length};
 ghost use Rattle.octets.specs.Octets.{bytes};
 ghost use Rattle.rows.specs.Rows.{shape, seed_bytes, entry_head_bytes, list_row_bytes};
@@ -11,7 +12,7 @@ use frame::Frame;
 use places::Arrival;
 
 // The answer of laying; specs/Laying.antt gives document 01's number and place for each case.
-#[derive(Drop)]
+#[derive(Clone, Copy)]
 pub enum Laid {
     Row,
     Shape,

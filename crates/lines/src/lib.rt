@@ -1,4 +1,5 @@
 // What a line of the page reader's input gives, after the lines before it. Document 01, "The page reader program".
+#![tactic(auto)]
 ghost use Rattle.std.specs.Prelude.{◌≡◌, ◌≤◌, length};
 ghost use Rattle.frame.specs.Numbers as frames;
 ghost use Rattle.laying.specs.Laying as laying;
@@ -13,7 +14,7 @@ use text::Hex;
 const MOST_BYTES: usize = 128;
 
 // What a good frame says of its page.
-#[derive(Drop)]
+#[derive(Clone, Copy)]
 pub struct Page {
     pub number: u32,
     pub n: u8,
@@ -21,28 +22,28 @@ pub struct Page {
 }
 
 // The page that the first good frame set.
-#[derive(Drop)]
+#[derive(Clone, Copy)]
 pub enum Expected {
     Nothing,
     Only(Page),
 }
 
 // What the lines so far have left: the expected page, and how many rows are laid.
-#[derive(Drop)]
+#[derive(Clone, Copy)]
 pub struct Sheet {
     pub expected: Expected,
     pub rows: usize,
 }
 
 // A line's result; of a refusal document 01's number and place.
-#[derive(Drop)]
+#[derive(Clone, Copy)]
 pub enum Line {
     Row,
     Refused(u8, usize),
 }
 
 // What a line gives, and leaves for the next.
-#[derive(Drop)]
+#[derive(Clone, Copy)]
 pub struct Taken {
     pub line: Line,
     pub sheet: Sheet,

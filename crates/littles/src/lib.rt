@@ -1,4 +1,6 @@
 // Eight bytes as one number, the first byte lowest, and the bytes of a number in that order: what only compares, adds or keeps eight bytes takes them in one load.
+#![tactic(auto)]
+
 ghost use Rattle.std.specs.Prelude.{◌≡◌, length};
 ghost use Rattle.littles.specs.Littles.{little_of, little_at, little_bytes};
 

@@ -1,9 +1,11 @@
 // Making a row from a page: its head, and the whole of it.
+#![tactic(auto)]
+
 ghost use Rattle.std.specs.Prelude.{◌≡◌, length};
 ghost use Rattle.making.specs.Making.{make_answer, make_room, headed};
 
 // The answer of making; specs/Making.antt gives document 01's number and place for each case.
-#[derive(Drop)]
+#[derive(Clone, Copy)]
 pub enum Made {
     Row,
     Shape,

@@ -1,4 +1,6 @@
 // The number that bytes stand for, and the bytes of a number, the highest first.
+#![tactic(auto)]
+
 ghost use Rattle.std.specs.Prelude.{◌≡◌, ◌%◌, ◌^◌, length};
 ghost use Rattle.octets.specs.Octets.{number, bytes};
 

@@ -1,4 +1,6 @@
 // Bytes, many at a time: added, cleared, copied. What number they stand for is defined here too.
+#![tactic(auto)]
+
 ghost use Rattle.std.specs.Prelude.{◌≡◌, min, length, take, replicate};
 ghost use Rattle.octets.specs.Octets.{add_front, over};
 

@@ -1,4 +1,5 @@
 // Offers a frame to a store: its row is laid into the list and taken in, or it is refused and the store stays as it was. Document 02, wish 5.
+#![tactic(auto)]
 ghost use Rattle.std.specs.Prelude.{◌≡◌, ◌*◌, ◌≤◌, length};
 ghost use Rattle.rows.specs.Rows.{list_row_bytes};
 ghost use Rattle.laying.specs.Laying.{laid, frame_entry, list_after};
@@ -10,7 +11,7 @@ use places::Arrival;
 use store::{Head, Header};
 
 // The answer of an offer; specs/Offering.antt gives document 02's number and place for each case.
-#[derive(Drop)]
+#[derive(Clone, Copy)]
 pub enum Offered {
     Room,
     Header,

@@ -1,11 +1,12 @@
 // Opens a store for a page. Document 02, wish 5.
+#![tactic(auto)]
 ghost use Rattle.std.specs.Prelude.{◌≡◌, ◌≤◌, [], ◌∷◌, ◌++◌, length};
 ghost use Rattle.octets.specs.Octets.{bytes, over};
 ghost use Rattle.store.specs.Store.{store_bytes};
 ghost use Rattle.opening.specs.Opening.{open_answer, blank, opened_store};
 
 // The answer of opening; specs/Opening.antt gives document 02's number for each case.
-#[derive(Drop)]
+#[derive(Clone, Copy)]
 pub enum Opened {
     Open,
     Shape,

@@ -1,5 +1,6 @@
 // The page reader: frames in hexadecimal on standard input, one a line; on standard output each line's result, and at the end the page.
 // lines::take decides what a line gives, and reader::read_list what the rows give. Here the input is split and the answers are printed.
+#![tactic(auto)]
 ghost use Rattle.std.specs.Prelude.{◌+◌, ◌*◌, ◌≤◌, length};
 ghost use Rattle.lines.specs.Readable.{Readable};
 ghost use Rattle.page_reader.specs.Scanning.{Ready};
@@ -17,7 +18,7 @@ const MOST_KEPT: usize = 257;
 const LIST_BYTES: usize = 22528;
 
 // How far the input is split: whether more may come, how many lines have ended, and how much is kept of the next.
-#[derive(Drop)]
+#[derive(Clone, Copy)]
 struct Scan {
     open: bool,
     lines: u64,

@@ -1,21 +1,23 @@
 // The two ways to count rows, each a type of its own: by arrival, and by kept place. "a slip of one for the other must not compile."
+#![tactic(auto)]
+
 ghost use Rattle.std.specs.Prelude.{◌≡◌, ◌+◌, ◌%◌};
 ghost use Rattle.doubles.specs.Doubles.{pair_at, put_pair};
 ghost use Rattle.places.specs.Places.{given_by, named};
 
 // The place of a row in a list, from 0.
-#[derive(Drop)]
+#[derive(Clone, Copy)]
 pub struct Arrival(pub usize);
 
 // The place of a kept row among the kept rows, from 0. Only `give` and `given` make one, and only this crate looks into it.
-#[derive(Drop)]
+#[derive(Clone, Copy)]
 pub struct KeptPlace(usize);
 
 // The most rows of a list.
 pub const MOST_ROWS: usize = 512;
 
 // What an arrival was given.
-#[derive(Drop)]
+#[derive(Clone, Copy)]
 pub enum Lookup {
     Place(KeptPlace),
     Nothing,

@@ -1,10 +1,11 @@
 // Prints readings: K1 to K12 of document 01, rows that repeat others or almost do, and the edges. The plain program docs/src/bin/reads.rs prints the same.
+#![tactic(auto)]
 ghost use Rattle.std.specs.Prelude.{◌≡◌, ◌≤◌, length};
 
 mod print;
 
 // How many bytes of the page room and the scratch are lent, and how many marks.
-#[derive(Drop)]
+#[derive(Clone, Copy)]
 struct Rooms {
     page: usize,
     marks: usize,

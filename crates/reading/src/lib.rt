@@ -1,7 +1,8 @@
 // What a reading of a list is: the definitions stand in specs/, their laws in proofs/. The code has the types of an answer alone.
+#![tactic(auto)]
 
 // The answer of a reading; specs/Answer.antt gives document 01's number, rank, place and agreement for each case.
-#[derive(Drop)]
+#[derive(Clone, Copy)]
 pub enum Answer {
     Page { rank: usize, agreement: usize },
     Shape,
@@ -13,7 +14,7 @@ pub enum Answer {
     Singular { rank: usize },
 }
 
-#[derive(Drop)]
+#[derive(Clone, Copy)]
 pub struct Numbers {
     pub number: u8,
     pub rank: usize,

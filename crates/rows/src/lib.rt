@@ -1,4 +1,6 @@
 // Rows and pages: what crosses between two phones.
+#![tactic(auto)]
+
 ghost use Rattle.std.specs.Prelude.{◌≡◌};
 ghost use Rattle.rows.specs.Rows.{shape, list_row_bytes};
 ghost use Rattle.rows.specs.Bytes.{stray};

@@ -1,4 +1,5 @@
 // Reduces a vector of bytes by slots, one for each digit of its key: the one step of elimination and of solving.
+#![tactic(auto)]
 ghost use Rattle.std.specs.Prelude.{◌≡◌, true, ◌+◌, ◌*◌, ◌%◌, ◌^◌, ◌≤◌, ◌<◌, length, take, drop};
 ghost use Rattle.std.specs.Int.Bits.{bit_xor};
 ghost use Rattle.octets.specs.Octets.{bytes};
@@ -10,7 +11,7 @@ ghost use Rattle.slots.specs.Reducing.{reducible, Grouped, Walked, pass_of, redu
 use vectors::Vector;
 
 // Where a pass over slots stops: at an empty slot, by its number; or past them all.
-#[derive(Drop)]
+#[derive(Clone, Copy)]
 pub enum Reduced {
     Stopped(usize),
     Spent,
@@ -18,7 +19,7 @@ pub enum Reduced {
 }
 
 // What a walk over 64 slots came to: the vector and where it ended; or it met a slot that it can't go on from.
-#[derive(Drop)]
+#[derive(Clone, Copy)]
 enum Walk {
     Ended(Vector, usize),
     Astray,

@@ -1,4 +1,5 @@
 // From the picked rows to the page, or singular.
+#![tactic(auto)]
 ghost use Rattle.std.specs.Prelude.{◌≡◌, length};
 ghost use Rattle.entering.specs.Enter.{slot_bytes};
 ghost use Rattle.solve.specs.Solve.{solvable, solve_answer, solve_page, solve_slots};
@@ -8,7 +9,7 @@ ghost use Rattle.solve.specs.Parts.{told, page_told};
 pub const SLOTS: usize = entering::SLOTS;
 
 // What came of solving. Page and Singular are document 01's answers 0 and 7; Misfit is for arguments that do not fit.
-#[derive(Drop)]
+#[derive(Clone, Copy)]
 pub enum Solved {
     Page,
     Singular,

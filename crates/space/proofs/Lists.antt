@@ -204,10 +204,12 @@ all_in p [] f = tt
 all_in p (x ∷ xs) f = (f x (Memᴰ.head refl), all_in p xs (λ y m. f y (Memᴰ.tail m)))
 
 pub all_at : {A : Type 0} (p : A → Bool) (xs : List A) → All p xs → (x : A) → Memᴰ x xs → p x ≡ true
+all_at {A = A} p [] h x m = elim m [ ]
 all_at p (y ∷ xs) h x (Memᴰ.head e) = ap p e ∙ h.0
 all_at p (y ∷ xs) h x (Memᴰ.tail m) = all_at p xs h.1 x m
 
 pub below_map_at : (m : ℕ) (f : ℕ → ℕ) (xs : List ℕ) → Below m (map f xs) → (x : ℕ) → Memᴰ x xs → f x < m
+below_map_at m f [] h x k = elim k [ ]
 below_map_at m f (y ∷ xs) h x (Memᴰ.head e) = rw e h.0
 below_map_at m f (y ∷ xs) h x (Memᴰ.tail k) = below_map_at m f xs h.1 x k
 

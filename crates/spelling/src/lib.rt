@@ -1,10 +1,11 @@
 // Hexadecimal digits: bytes to a line.
+#![tactic(auto)]
 ghost use Rattle.std.specs.Prelude.{◌≡◌, ◌/◌, ◌≤◌, ◌<◌, length};
 ghost use Rattle.octets.specs.Octets.{over};
 ghost use Rattle.spelling.specs.Spelling as spec;
 
 // The answer of `spell`: how many characters were written; or a lent text that is too short for them.
-#[derive(Drop)]
+#[derive(Clone, Copy)]
 pub enum Spelled {
     Characters(usize),
     Room,

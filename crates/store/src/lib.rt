@@ -1,4 +1,5 @@
 // The store: the rows of a scan and the working of their elimination in one buffer. Where everything lies in it, and what its header says.
+#![tactic(auto)]
 ghost use Rattle.std.specs.Prelude.{◌≡◌, ◌+◌};
 ghost use Rattle.store.specs.Store.{list_start, list_in, working_start, working_in};
 ghost use Rattle.store.specs.Header.{header_of};
@@ -20,7 +21,7 @@ pub const TAKEN: usize = 4;
 pub const RANK: usize = 5;
 
 // What a header says that is in range: the page; how many rows there are, how many of them count, and how many are kept.
-#[derive(Drop)]
+#[derive(Clone, Copy)]
 pub struct Head {
     pub page: u32,
     pub n: u8,
@@ -31,7 +32,7 @@ pub struct Head {
 }
 
 // What the check of a header says; specs/Header.antt gives document 02's number for each refusal.
-#[derive(Drop)]
+#[derive(Clone, Copy)]
 pub enum Header {
     Short,
     OutOfRange,

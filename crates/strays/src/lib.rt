@@ -1,4 +1,5 @@
 // The check 4 of a list: the first row with a stray bit.
+#![tactic(auto)]
 ghost use Rattle.std.specs.Prelude.{◌≡◌, ◌-◌, ◌^◌, ◌≤◌, leb, length};
 ghost use Rattle.octets.specs.Octets.{number};
 ghost use Rattle.rows.specs.Rows.{constraint};
@@ -7,7 +8,7 @@ ghost use Rattle.strays.specs.Strays.{stray_check, strays_in};
 use places::Arrival;
 
 // The first row with a stray bit, if there is one.
-#[derive(Drop)]
+#[derive(Clone, Copy)]
 pub enum Stray {
     At(Arrival),
     Nowhere,

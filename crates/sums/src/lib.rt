@@ -1,4 +1,6 @@
 // The sum of the symbols of a page that a constraint names: the payload of its row.
+#![tactic(auto)]
+
 ghost use Rattle.std.specs.Prelude.{◌≡◌, ◌/◌, ◌^◌, ◌<◌, length};
 ghost use Rattle.octets.specs.Octets.{bytes, xor_bytes};
 ghost use Rattle.rows.specs.Rows.{named};

@@ -1,4 +1,5 @@
 // Document 01's numbers of what reading a frame answers, and of what laying it does.
+#![tactic(auto)]
 ghost use Rattle.std.specs.Prelude.{◌≡◌};
 ghost use Rattle.frame.specs.Numbers.{refused, frame_numbers};
 ghost use Rattle.telling.specs.Told.{told_by};
@@ -48,7 +49,7 @@ pub fn numbers_of(found: Frame) -> Numbers
 // ---- laying
 
 // Number and place of an answer.
-#[derive(Drop)]
+#[derive(Clone, Copy)]
 pub struct Told {
     pub number: u8,
     pub place: usize,

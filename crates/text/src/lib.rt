@@ -1,4 +1,5 @@
 // Hexadecimal digits: a line to bytes.
+#![tactic(auto)]
 ghost use Rattle.std.specs.Prelude.{◌≡◌, ◌/◌, ◌≤◌, true, length};
 ghost use Rattle.octets.specs.Octets.{over};
 ghost use Rattle.text.specs.Hex as spec;
@@ -7,7 +8,7 @@ ghost use Rattle.text.specs.Hex as spec;
 const MOST_CHARACTERS: usize = 256;
 
 // The answer of `unhex`: how many bytes a line stands for; a bad line; or a lent frame that is too short for its bytes.
-#[derive(Drop)]
+#[derive(Clone, Copy)]
 pub enum Hex {
     Bytes(usize),
     Bad,

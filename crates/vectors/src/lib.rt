@@ -1,9 +1,11 @@
 // A vector of 80 bytes, held in ten words so that it stays in registers while other vectors are added to it.
+#![tactic(auto)]
+
 ghost use Rattle.std.specs.Prelude.{◌≡◌, get_or};
 ghost use Rattle.vectors.specs.Vectors.{vector_of, words_in, plus_of, store_in};
 
 // Fields and no array: the compiler keeps fields in registers, an array it copies about.
-#[derive(Drop)]
+#[derive(Clone, Copy)]
 pub struct Vector {
     pub a: u64,
     pub b: u64,

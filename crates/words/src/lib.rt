@@ -1,4 +1,6 @@
 // Eight bytes as one number of 64 bits, and four as one of 32, the first byte highest: what takes bytes one by one takes them by eights here.
+#![tactic(auto)]
+
 ghost use Rattle.std.specs.Prelude.{◌≡◌, length};
 ghost use Rattle.octets.specs.Octets.{number};
 ghost use Rattle.words.specs.Words.{word_at, four_of};

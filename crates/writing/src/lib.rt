@@ -1,4 +1,5 @@
 // Writes frames. Document 01, "The frame".
+#![tactic(auto)]
 ghost use Rattle.std.specs.Prelude.{◌≡◌};
 ghost use Rattle.writing.specs.Writing.{write_answer, frame_of, room_after};
 
@@ -8,7 +9,7 @@ use draw::Drawn;
 use frame::layout::PAYLOAD;
 
 // The answer of writing; specs/Writing.antt gives document 01's number and place for each case.
-#[derive(Drop)]
+#[derive(Clone, Copy)]
 pub enum Written {
     Done,
     Shape,

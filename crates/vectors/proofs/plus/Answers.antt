@@ -1,0 +1,10 @@
+-- `vectors::plus` meets its contract.
+-- Assumes nothing.
+use mathlib.Core.Path.{refl}
+use Rattle.space.specs.Space.{◌⊕◌}
+use Rattle.vectors.specs.Vectors.{plus_of}
+use Rattle.vectors.proofs.plus.Goals as goal
+
+pub returns : goal.returns
+unfolding plus_of ◌⊕◌
+returns c = refl
