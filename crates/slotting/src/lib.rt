@@ -1,5 +1,6 @@
 // How a kept row stands in its slot: its vector, with the digit in the tail that names its kept place; and its head, where reducing looks for it.
 #![tactic(auto)]
+
 ghost use Rattle.std.specs.Prelude.{◌≡◌};
 ghost use Rattle.slotting.specs.Slotting.{slotted, headed};
 

@@ -1,14 +1,9 @@
 -- `making::make` meets its contract: the head goes over the first 12 bytes of the room and the sum right behind them, and a refusal goes back as it came.
 -- Assumes nothing.
 use mathlib.Core.Path.{◌≡◌, sym, ◌∙◌}
-use mathlib.Core.List.{[], ◌∷◌}
-use Prim.Native.Nat.{◌+◌, ◌≤◌}
+use Prim.Native.Nat.{◌≤◌}
 use native.Mathlib.Omega.{arith}
 use lib.ListN.{length}
-use lib.Seq.{length-take-le}
-use borrow.Author.Rules.{rules}
-use types.Run.{miss}
-use Rattle.making.specs.declared.Made.{Made}
 use Rattle.making.specs.declared.Made.TheVariants.{Row}
 use Rattle.rows.specs.Rows.{list_row_bytes}
 use Rattle.making.specs.Making.{make_answer}
@@ -19,8 +14,7 @@ use Rattle.making.proofs.make.Goals.{In-Row, Start}
 -- an answer with another tag than the first is no row
 pub returns-in_default : goal.returns-in_default
 returns-in_default c =
-    let other = λ row. c.in_default.not-Row (c.answer-said.ensures ∙ row) in
-    record { answer = c.answer-said.ensures; room = sym (room-refused _ _ _ _ c.args.page.now c.args.room.now other) }
+    record { answer = c.answer-said.ensures; room = sym (room-refused _ _ _ _ c.args.page.now c.args.room.now (λ row. c.in_default.not-Row (c.answer-said.ensures ∙ row))) }
 
 module _ (c : In-Row) where
   row : make_answer c.args.n c.args.l c.args.constraint (length c.args.page.now) (length c.args.room.now) ≡ Row

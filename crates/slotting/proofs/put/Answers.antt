@@ -1,0 +1,76 @@
+-- `put` meets its contract: the vector is laid at its slot, and there its digit is turned.
+-- Assumes nothing.
+use mathlib.Core.Path.{◌≡◌, sym, ap, ◌∙◌}
+use mathlib.Core.List.{List}
+use Prim.Native.Nat.{ℕ, ◌+◌, ◌-◌, ◌*◌, ◌≤◌}
+use native.Mathlib.Omega.{arith}
+use lib.ListN.{length, take, drop}
+use lib.Seq.{take_all, length-take-le}
+use borrow.Author.Rules.{rules}
+use borrow.Rule.Slice.PartMut.{put_mid}
+use Rattle.octets.specs.Octets.{lay}
+use Rattle.octets.proofs.Lay.{copied, length-lay, part-lay, lay-lay}
+use Rattle.octets.proofs.Parts.{back}
+use Rattle.octets.proofs.Views.{length_part}
+use Rattle.places.specs.Places.{named}
+use Rattle.slotting.specs.Slotting.{vector_bytes}
+use Rattle.slotting.proofs.Fits.{no_vector, no_slot, slotted_is, length-named}
+use Rattle.slotting.proofs.put.Goals as goal
+use Rattle.slotting.proofs.put.Goals.{After-copy}
+
+pub returns-then-vector-ne-VECTOR : goal.returns-then-vector-ne-VECTOR
+unfolding vector_bytes
+returns-then-vector-ne-VECTOR c =
+    let A = c.args in
+    no_vector A.t A.vector.now A.place.0 A.slots.now c.if-vector-ne-VECTOR.true
+
+pub returns-then-slots-t : goal.returns-then-slots-t
+unfolding vector_bytes
+returns-then-slots-t c =
+    let A = c.args in
+    no_slot A.t A.vector.now A.place.0 A.slots.now c.if-vector-ne-VECTOR.false c.if-slots-t.true
+
+pub slice_bounds-copy-end-2 : goal.slice_bounds-copy-end-2
+slice_bounds-copy-end-2 c = sym (length-take-le _ c.args.vector.now (omega (arith, c.if-vector-ne-VECTOR.false)))
+
+-- the vector is copied to its slot
+module _ (c : After-copy) where
+  abbrev t : ℕ
+  t = c.args.t
+
+  abbrev slots : List ℕ
+  slots = c.args.slots.now
+
+  abbrev vector : List ℕ
+  vector = c.args.vector.now
+
+  size : t * 80 + 80 - t * 80 ≡ 80
+  size = omega arith
+
+  wide : length vector ≡ 80
+  wide = c.if-vector-ne-VECTOR.false
+
+  fits : t * 80 + 80 ≤ length slots
+  fits = omega (arith, c.if-slots-t.false)
+
+  copied-there : put_mid (t * 80) (t * 80 + 80 - t * 80) slots c.copy.new.into ≡ lay (t * 80) vector slots
+  copied-there =
+      let part : length (take (t * 80 + 80 - t * 80) (drop (t * 80) slots)) ≡ 80 = rw size (length_part 80 (t * 80) slots fits) in
+      let whole : take 80 vector ≡ vector = take_all 80 vector (omega (arith, wide)) in
+      let same : c.copy.new.into ≡ vector = c.copy.ensures ∙ rw whole (copied 80 vector (take (t * 80 + 80 - t * 80) (drop (t * 80) slots)) wide part) in
+      ap (put_mid (t * 80) (t * 80 + 80 - t * 80) slots) same ∙ back (t * 80) (t * 80 + 80 - t * 80) vector slots (wide ∙ sym size)
+
+pub returns : goal.returns
+unfolding vector_bytes
+returns c =
+    let n = c.name in
+    let p : ℕ = c.args.place.0 in
+    let slot : List ℕ = put_mid (t (goal.at.returns c).After-copy * 80) (t (goal.at.returns c).After-copy * 80 + 80 - t (goal.at.returns c).After-copy * 80) (slots (goal.at.returns c).After-copy) c.copy.new.into in
+    let part : take (t (goal.at.returns c).After-copy * 80 + 80 - t (goal.at.returns c).After-copy * 80) (drop (t (goal.at.returns c).After-copy * 80) slot) ≡ vector (goal.at.returns c).After-copy =
+    rw (copied-there (goal.at.returns c).After-copy, size (goal.at.returns c).After-copy) (part-lay (t (goal.at.returns c).After-copy * 80) 80 (vector (goal.at.returns c).After-copy) (slots (goal.at.returns c).After-copy) (wide (goal.at.returns c).After-copy) (omega (arith, fits (goal.at.returns c).After-copy))) in
+    let is : n.new.0 ≡ named p (vector (goal.at.returns c).After-copy) = n.ensures ∙ ap (named p) part in
+    let long : length (named p (vector (goal.at.returns c).After-copy)) ≡ length (vector (goal.at.returns c).After-copy) = length-named p (vector (goal.at.returns c).After-copy) in
+    back (t (goal.at.returns c).After-copy * 80) (t (goal.at.returns c).After-copy * 80 + 80 - t (goal.at.returns c).After-copy * 80) n.new.0 slot (ap length is ∙ long ∙ wide (goal.at.returns c).After-copy ∙ sym (size (goal.at.returns c).After-copy))
+    ∙ ap (λ (v : List ℕ). lay (t (goal.at.returns c).After-copy * 80) v slot) is ∙ ap (lay (t (goal.at.returns c).After-copy * 80) (named p (vector (goal.at.returns c).After-copy))) (copied-there (goal.at.returns c).After-copy)
+    ∙ lay-lay (t (goal.at.returns c).After-copy * 80) (named p (vector (goal.at.returns c).After-copy)) (vector (goal.at.returns c).After-copy) (slots (goal.at.returns c).After-copy) long (omega (arith, fits (goal.at.returns c).After-copy))
+    ∙ sym (slotted_is (t (goal.at.returns c).After-copy) (vector (goal.at.returns c).After-copy) p (slots (goal.at.returns c).After-copy) (wide (goal.at.returns c).After-copy) c.if-slots-t.false)
