@@ -1,21 +1,20 @@
 -- What a row of a list is, by its arrival number: as long as a row, and its number the one that the list's definition has there.
 -- Assumes nothing.
 use mathlib.Core.Path.{◌≡◌, sym, ap, ◌∙◌}
-use mathlib.Core.Bool.{true}
 use mathlib.Core.List.{List, map}
-use Prim.Native.Nat.{ℕ, ◌+◌, ◌*◌, ◌/◌, ◌≤◌, ◌<◌}
+use Prim.Native.Nat.{ℕ, ◌+◌, ◌*◌, ◌≤◌, ◌<◌}
 use native.Mathlib.Nat.{div-mul-le_self}
 use native.Mathlib.Omega.{arith}
 use lib.Pow.{pow_pos}
 use lib.ListN.{length, take, drop, get_or, length-drop, get_or-map}
 use Rattle.space.specs.Lists.{Below}
-use Rattle.octets.specs.Octets.{number, numbers}
+use Rattle.octets.specs.Octets.{number}
 use Rattle.octets.proofs.Runs.{below_parts, get_or-numbers}
 use Rattle.octets.proofs.Digits.{number-back}
 use Rattle.octets.proofs.Views.{part_room, length_part}
 use Rattle.rows.specs.Rows.{seed_bytes, row_bytes, list_row_bytes, row_count, entries_of, vector, rows_of}
 use Rattle.rows.proofs.Entries.{vector-whole}
-use Rattle.lists.specs.Lists.{is_entry, entry_at, size_of, start_of, row_at}
+use Rattle.lists.specs.Lists.{entry_at, size_of, start_of, row_at}
 use Rattle.lists.proofs.AtArrival.{is_entry_lem, entry_shows}
 
 module _ (l m : ℕ) (list : List ℕ) where

@@ -1,5 +1,6 @@
 // The entries of a list: how many there are, and each by its arrival number, as that part of the list itself.
 #![tactic(auto)]
+
 ghost use Rattle.std.specs.Prelude.{◌≡◌, ◌+◌, ◌/◌};
 ghost use Rattle.rows.specs.Rows.{list_row_bytes};
 ghost use Rattle.lists.specs.Lists.{start_of, entry_at, row_start, row_at};
