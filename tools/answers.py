@@ -140,8 +140,20 @@ CHAIN = re.compile(r"(?<![\w.'-])(?P<root>[A-Za-z_][\w'-]*)(?P<fields>(?:\.(?:" 
 
 def chains(text, fn, var, place, goal, said):
     """Turns each path from the record `var` in text."""
+    short = {}
+    for m in re.finditer(r"let ([\w'-]+) = " + re.escape(var) + r"((?:\.before)*)\.([a-z][\w'.-]*) in", text):
+        short[m.group(1)] = (m.group(2).count("."), m.group(3).split("."))
 
     def turn(m):
+        if m.group("root") in short and m.group("fields"):
+            n, fields = short[m.group("root")]
+            own = [f for f in m.group("fields").split(".") if f]
+            at = fn.up(place, n) if place else None
+            prefix = fn.fields(fields, [], at, place)
+            whole = fn.fields(fields + own, [], at, place)
+            if whole[: len(prefix)] == prefix:
+                return ".".join([m.group("root")] + whole[len(prefix) :])
+            return ".".join([var] + whole)
         if m.group("root") != var:
             return m.group(0)
         fields = [f for f in m.group("fields").split(".") if f]
@@ -345,6 +357,10 @@ def answer(fn, m, heads, above, aliases, said):
             turned = re.sub(rf"(?<![\w.'-]){re.escape(name)}(?![\w'-])(?= )", to, turned)
         turned = re.sub(r"\bnot-(?:true|false) (?:_|\S+) (?=c\.)", "", turned)
         turned = by_clause(turned, fn, new)
+        for record in sorted(set(re.findall(r"\(goal\.at\.\S+ \w+\)\.[\w-]+", turned))):
+            if turned.count(record) > 2:
+                name = next(x for x in ("k", "k2", "k3", "k4") if not re.search(rf"(?<![\w.'-]){x}(?![\w'-])", turned))
+                turned = f"let {name} = {record} in\n    " + turned.replace(record, name)
         gap = "\n    " if "\n" in turned or len(turned) > 110 else " "
         out.append("\n".join(above + [f"pub {new} : goal.{new}"]) + f"\n{unfolding}{new} {h.group(2)}{h.group(4)} ={gap}{turned}")
     return out

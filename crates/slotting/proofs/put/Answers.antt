@@ -6,10 +6,9 @@ use Prim.Native.Nat.{ℕ, ◌+◌, ◌-◌, ◌*◌, ◌≤◌}
 use native.Mathlib.Omega.{arith}
 use lib.ListN.{length, take, drop}
 use lib.Seq.{take_all, length-take-le}
-use borrow.Author.Rules.{rules}
 use borrow.Rule.Slice.PartMut.{put_mid}
 use Rattle.octets.specs.Octets.{lay}
-use Rattle.octets.proofs.Lay.{copied, length-lay, part-lay, lay-lay}
+use Rattle.octets.proofs.Lay.{copied, part-lay, lay-lay}
 use Rattle.octets.proofs.Parts.{back}
 use Rattle.octets.proofs.Views.{length_part}
 use Rattle.places.specs.Places.{named}
@@ -63,14 +62,15 @@ module _ (c : After-copy) where
 pub returns : goal.returns
 unfolding vector_bytes
 returns c =
+    let k = (goal.at.returns c).After-copy in
     let n = c.name in
     let p : ℕ = c.args.place.0 in
-    let slot : List ℕ = put_mid (t (goal.at.returns c).After-copy * 80) (t (goal.at.returns c).After-copy * 80 + 80 - t (goal.at.returns c).After-copy * 80) (slots (goal.at.returns c).After-copy) c.copy.new.into in
-    let part : take (t (goal.at.returns c).After-copy * 80 + 80 - t (goal.at.returns c).After-copy * 80) (drop (t (goal.at.returns c).After-copy * 80) slot) ≡ vector (goal.at.returns c).After-copy =
-    rw (copied-there (goal.at.returns c).After-copy, size (goal.at.returns c).After-copy) (part-lay (t (goal.at.returns c).After-copy * 80) 80 (vector (goal.at.returns c).After-copy) (slots (goal.at.returns c).After-copy) (wide (goal.at.returns c).After-copy) (omega (arith, fits (goal.at.returns c).After-copy))) in
-    let is : n.new.0 ≡ named p (vector (goal.at.returns c).After-copy) = n.ensures ∙ ap (named p) part in
-    let long : length (named p (vector (goal.at.returns c).After-copy)) ≡ length (vector (goal.at.returns c).After-copy) = length-named p (vector (goal.at.returns c).After-copy) in
-    back (t (goal.at.returns c).After-copy * 80) (t (goal.at.returns c).After-copy * 80 + 80 - t (goal.at.returns c).After-copy * 80) n.new.0 slot (ap length is ∙ long ∙ wide (goal.at.returns c).After-copy ∙ sym (size (goal.at.returns c).After-copy))
-    ∙ ap (λ (v : List ℕ). lay (t (goal.at.returns c).After-copy * 80) v slot) is ∙ ap (lay (t (goal.at.returns c).After-copy * 80) (named p (vector (goal.at.returns c).After-copy))) (copied-there (goal.at.returns c).After-copy)
-    ∙ lay-lay (t (goal.at.returns c).After-copy * 80) (named p (vector (goal.at.returns c).After-copy)) (vector (goal.at.returns c).After-copy) (slots (goal.at.returns c).After-copy) long (omega (arith, fits (goal.at.returns c).After-copy))
-    ∙ sym (slotted_is (t (goal.at.returns c).After-copy) (vector (goal.at.returns c).After-copy) p (slots (goal.at.returns c).After-copy) (wide (goal.at.returns c).After-copy) c.if-slots-t.false)
+    let slot : List ℕ = put_mid (t k * 80) (t k * 80 + 80 - t k * 80) (slots k) c.copy.new.into in
+    let part : take (t k * 80 + 80 - t k * 80) (drop (t k * 80) slot) ≡ vector k =
+    rw (copied-there k, size k) (part-lay (t k * 80) 80 (vector k) (slots k) (wide k) (omega (arith, fits k))) in
+    let is : n.new.tail ≡ named p (vector k) = n.ensures ∙ ap (named p) part in
+    let long : length (named p (vector k)) ≡ length (vector k) = length-named p (vector k) in
+    back (t k * 80) (t k * 80 + 80 - t k * 80) n.new.tail slot (ap length is ∙ long ∙ wide k ∙ sym (size k))
+    ∙ ap (λ (v : List ℕ). lay (t k * 80) v slot) is ∙ ap (lay (t k * 80) (named p (vector k))) (copied-there k)
+    ∙ lay-lay (t k * 80) (named p (vector k)) (vector k) (slots k) long (omega (arith, fits k))
+    ∙ sym (slotted_is (t k) (vector k) p (slots k) (wide k) c.if-slots-t.false)
