@@ -17,7 +17,7 @@ among_mem (d ∷ ds) e h = go (eqb e d) refl h (among_mem ds e)
     go true p h ih = Memᴰ.head (eqb-true e d p)
     go false p h ih = Memᴰ.tail (ih h)
 
-pub mem_among : {ds : List ℕ} {e : ℕ} → Memᴰ e ds → among ds e ≡ true
+pub mem_among : {e : ℕ} {ds : List ℕ} → Memᴰ e ds → among ds e ≡ true
 unfolding among
 mem_among {e = e} (Memᴰ.head {x = d} p) = rw (eq-eqb e d p)
 mem_among {e = e} (Memᴰ.tail {x = d} {xs = ds} m) = go (eqb e d) (mem_among m)

@@ -102,6 +102,7 @@ module _ (entry : ℕ) where
   cover_tail before e entries c = (suc c.0, c.1, c.2)
 
   cover_after : (entries before : List ℕ) → among before entry ≡ false → Memᴰ entry entries → Covered before entries entry
+  cover_after [] before none x'' = elim x'' [ ]
   cover_after (e ∷ entries) before none (Memᴰ.head p) = cover_head before e entries none p
   cover_after (e ∷ entries) before none (Memᴰ.tail m) = go (eqb entry e) refl (λ free. cover_after entries (before ++ (e ∷ [])) free m)
     where

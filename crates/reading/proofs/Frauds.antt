@@ -9,7 +9,7 @@ use mathlib.Core.List.{List, [], ◌∷◌, Memᴰ}
 use lib.ListN.{length, get_or, take, drop, length-append, length-drop}
 use Rattle.space.specs.Space.{◌⊕◌}
 use Rattle.space.proofs.Xor.{⊕_cancel, ⊕_self}
-use Rattle.octets.specs.Octets.{number, bytes, numbers, flat, xor_bytes, over}
+use Rattle.octets.specs.Octets.{bytes, flat, xor_bytes, over}
 use Rattle.rows.specs.Rows.{row_count, symbols}
 use Rattle.rows.specs.Shift.{shifted_list}
 use Rattle.reading.specs.declared.Answer.{Answer}

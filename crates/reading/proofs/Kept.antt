@@ -1,7 +1,7 @@
 -- What is kept, in document 01's words: exactly the rows that no set of rows kept before them sums to; the kept rows are
 -- independent and span all rows; each other row is the sum of exactly one set of them.
 -- Assumes nothing.
-use mathlib.Core.Path.{◌≡◌, refl, sym, ap, ◌∙◌}
+use mathlib.Core.Path.{◌≡◌, refl, sym, ap, ◌∙◌, subst}
 use Prim.Native.Nat.{ℕ, suc, ◌+◌, ◌*◌, ◌^◌, ◌≤◌}
 use native.Mathlib.Nat.{add-zero}
 use mathlib.Core.Bool.{Bool, true, false, cond, not, or-true, false≢true}
@@ -116,10 +116,14 @@ kept-independent rows = kept_after-independent rows [] refl
 module _ (r : ℕ) (rows before : List ℕ) (ih : (before : List ℕ) → All (spans (before ++ kept_next before rows)) rows) where
   span_step : (b : Bool) → spans before r ≡ b → All (spans (before ++ kept_next before (r ∷ rows))) (r ∷ rows)
   unfolding kept_after select
-  span_step true e = rw e (spans-append before (kept_next before rows) r e, ih before)
+  span_step true e =
+      let told : kept_next before rows ≡ kept_next before (r ∷ rows) = rw e refl in
+      subst (λ ks. All (spans (before ++ ks)) (r ∷ rows)) told (spans-append before (kept_next before rows) r e, ih before)
   span_step false e =
-      rw e (rw (← append_snoc before r (kept_next (before ++ (r ∷ [])) rows))
-      (spans-append (before ++ (r ∷ [])) (kept_next (before ++ (r ∷ [])) rows) r last, ih (before ++ (r ∷ []))))
+      let more = kept_next (before ++ (r ∷ [])) rows in
+      let told : r ∷ more ≡ kept_next before (r ∷ rows) = rw e refl in
+      subst (λ ks. All (spans ks) (r ∷ rows)) (append_snoc before r more ∙ ap (λ ks. before ++ ks) told)
+      (spans-append (before ++ (r ∷ [])) more r last, ih (before ++ (r ∷ [])))
     where
       last : spans (before ++ (r ∷ [])) r ≡ true
       last = spans-snoc before r r ∙ rw (⊕_self r) (rw (spans_zero before) (or-true (spans before r)))
