@@ -1,5 +1,6 @@
 // Hexadecimal digits: a line to bytes.
 #![tactic(auto)]
+
 ghost use Rattle.std.specs.Prelude.{◌≡◌, ◌/◌, ◌≤◌, true, length};
 ghost use Rattle.octets.specs.Octets.{over};
 ghost use Rattle.text.specs.Hex as spec;
