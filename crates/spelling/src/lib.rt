@@ -1,5 +1,6 @@
 // Hexadecimal digits: bytes to a line.
 #![tactic(auto)]
+
 ghost use Rattle.std.specs.Prelude.{◌≡◌, ◌/◌, ◌≤◌, ◌<◌, length};
 ghost use Rattle.octets.specs.Octets.{over};
 ghost use Rattle.spelling.specs.Spelling as spec;
