@@ -4,6 +4,7 @@ ghost use Rattle.std.specs.Prelude.{◌≡◌, ◌<◌, ◌≤◌, length};
 ghost use Rattle.draw.specs.Draw.{drawn, constraint_of};
 
 use draw::Drawn;
+use std::io;
 
 // A seed's 8 digits, a space and 16 digits for each n, and the line's end.
 const LINE: usize = 8 + 64 * 17 + 1;
@@ -62,15 +63,16 @@ fn fill(seed: u32, line: &mut [u8])
     }
 }
 
-fn print(seed: u32) {
+fn print(rt: &impl Print, seed: u32) -> io::Result<()> {
     let mut line = [b' '; LINE];
     line[LINE - 1] = b'\n';
     fill(seed, &mut line);
-    io::write_all(libc::STDOUT_FILENO, &line);
+    rt.write_all(&line)
 }
 
-fn main() {
+fn main(rt: HostRuntime) -> io::Result<()> {
     for i in 0..SEEDS {
-        print(seed_at(i));
+        print(&rt, seed_at(i))?;
     }
+    Ok(())
 }

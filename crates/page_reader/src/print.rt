@@ -1,10 +1,11 @@
 // The lines of the output, each written at once. The texts have room for the longest line, whatever its numbers are.
 ghost use Rattle.std.specs.Prelude.{◌≤◌, length};
 
-use libc::STDOUT_FILENO;
+use itoa::Buffer;
 use lines::{Line, Page};
 use reading::{Answer, Numbers};
 use spelling::Spelled;
+use std::io;
 
 // Puts words behind the first `at` characters, as far as there is room, and gives where they end.
 fn put(text: &mut [u8], at: usize, words: &[u8]) -> usize
@@ -21,16 +22,15 @@ fn put_number(text: &mut [u8], at: usize, words: &[u8], number: u64) -> usize
     ensures { result ≤ length text.old }
 {
     let end = put(text, at, words);
-    let mut digits = [0u8; 20];
-    let k = io::decimal(number, &mut digits);
-    put(text, end, &digits[..k])
+    let mut digits = Buffer::new();
+    put(text, end, digits.format(number).as_bytes())
 }
 
 // Writes the first characters of a text.
-fn write(text: &[u8], end: usize)
+fn write(rt: &impl Print, text: &[u8], end: usize) -> io::Result<()>
     requires { end ≤ length text.now }
 {
-    io::write_all(STDOUT_FILENO, &text[..end]);
+    rt.write_all(&text[..end])
 }
 
 fn put_refused(text: &mut [u8], at: usize, number: u8, place: usize) -> usize
@@ -53,11 +53,11 @@ fn put_line(text: &mut [u8], at: usize, line: Line) -> usize
 }
 
 // "Each early line is the line number and its result."
-pub(crate) fn result(number: u64, line: Line) {
+pub(crate) fn result(rt: &impl Print, number: u64, line: Line) -> io::Result<()> {
     let mut text = [0u8; 96];
     let at = put_number(&mut text, 0, b"", number);
     let end = put_line(&mut text, at, line);
-    write(&text, end);
+    write(rt, &text, end)
 }
 
 fn put_page(text: &mut [u8], page: Page, rows: usize) -> usize
@@ -80,28 +80,28 @@ fn put_answer(text: &mut [u8], at: usize, numbers: Numbers) -> usize
 }
 
 // "The page line gives page number, n, L, rows laid, rank, answer number, agreement."
-pub(crate) fn answer(page: Page, rows: usize, answer: Answer) {
+pub(crate) fn answer(rt: &impl Print, page: Page, rows: usize, answer: Answer) -> io::Result<()> {
     let numbers = answer_numbers::numbers_of(answer);
     let mut text = [0u8; 256];
     let at = put_page(&mut text, page, rows);
     let end = put_answer(&mut text, at, numbers);
-    write(&text, end);
+    write(rt, &text, end)
 }
 
 // "The page follows in lower-case hexadecimal".
-pub(crate) fn page(bytes: &[u8])
+pub(crate) fn page(rt: &impl Print, bytes: &[u8]) -> io::Result<()>
     requires { length bytes.now ≤ 2048 }
 {
     let mut text = [0u8; 4097];
     let spelled = spelling::spell(bytes, &mut text);
     let Spelled::Characters(k) = spelled else {
-        return;
+        return Ok(());
     };
     let end = put(&mut text, k, b"\n");
-    write(&text, end);
+    write(rt, &text, end)
 }
 
 // "With no good frame the last line is `no page`."
-pub(crate) fn no_page() {
-    io::write_all(STDOUT_FILENO, b"no page\n");
+pub(crate) fn no_page(rt: &impl Print) -> io::Result<()> {
+    rt.write_all(b"no page\n")
 }

@@ -1,46 +1,48 @@
 // A line for each reading: the numbers of its answer, and what each buffer holds afterwards.
 ghost use Rattle.std.specs.Prelude.{◌≤◌};
 
-use libc::STDOUT_FILENO;
 use reading::Answer;
+use std::io;
 
-fn number(x: u64) {
-    io::print_decimal(STDOUT_FILENO, x);
-    io::write_all(STDOUT_FILENO, b" ");
+fn number(rt: &impl Print, x: u64) -> io::Result<()> {
+    print!(rt; "{x}")?;
+    rt.write_all(b" ")
 }
 
-pub(crate) fn answer(answer: Answer) {
+pub(crate) fn answer(rt: &impl Print, answer: Answer) -> io::Result<()> {
     let numbers = answer_numbers::numbers_of(answer);
-    number(numbers.number as u64);
-    number(numbers.rank as u64);
-    number(numbers.place as u64);
-    number(numbers.agreement as u64);
+    number(rt, numbers.number as u64)?;
+    number(rt, numbers.rank as u64)?;
+    number(rt, numbers.place as u64)?;
+    number(rt, numbers.agreement as u64)
 }
 
-fn byte(b: u8) {
-    number(b as u64);
+fn byte(rt: &impl Print, b: u8) -> io::Result<()> {
+    number(rt, b as u64)
 }
 
-fn word(w: u16) {
-    number(w as u64);
+fn word(rt: &impl Print, w: u16) -> io::Result<()> {
+    number(rt, w as u64)
 }
 
-pub(crate) fn bytes(bytes: &[u8]) {
-    io::write_all(STDOUT_FILENO, b"| ");
+pub(crate) fn bytes(rt: &impl Print, bytes: &[u8]) -> io::Result<()> {
+    rt.write_all(b"| ")?;
     let mut i: usize = 0;
     while i < bytes.len() {
-        byte(bytes[i]);
+        byte(rt, bytes[i])?;
         i += 1;
     }
+    Ok(())
 }
 
-pub(crate) fn words(words: &[u16]) {
-    io::write_all(STDOUT_FILENO, b"| ");
+pub(crate) fn words(rt: &impl Print, words: &[u16]) -> io::Result<()> {
+    rt.write_all(b"| ")?;
     let mut i: usize = 0;
     while i < words.len() {
-        word(words[i]);
+        word(rt, words[i])?;
         i += 1;
     }
+    Ok(())
 }
 
 fn one_if_zero(b: u8) -> usize
@@ -50,15 +52,15 @@ fn one_if_zero(b: u8) -> usize
 }
 
 // How many bytes of the scratch are zero, and how many are not, to the line's end.
-pub(crate) fn scratch(scratch: &[u8]) {
+pub(crate) fn scratch(rt: &impl Print, scratch: &[u8]) -> io::Result<()> {
     let mut zeros: usize = 0;
     let mut i: usize = 0;
     while i < scratch.len() {
         zeros += one_if_zero(scratch[i]);
         i += 1;
     }
-    io::write_all(STDOUT_FILENO, b"| ");
-    number(zeros as u64);
-    number((scratch.len() - zeros) as u64);
-    io::write_all(STDOUT_FILENO, b"\n");
+    rt.write_all(b"| ")?;
+    number(rt, zeros as u64)?;
+    number(rt, (scratch.len() - zeros) as u64)?;
+    rt.write_all(b"\n")
 }
