@@ -1,5 +1,6 @@
 // Chooses rows by their uses: which kept rows are picked, or whether there is a tie.
 #![tactic(auto)]
+
 ghost use Rattle.std.specs.Prelude.{◌≡◌, cond, ◌+◌, ◌*◌, ◌<◌, leb};
 ghost use Rattle.space.specs.Lists.{count};
 ghost use Rattle.doubles.specs.Doubles.{pairs_in};
