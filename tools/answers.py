@@ -85,14 +85,21 @@ class Function:
     def up(self, place, n):
         for _ in range(n):
             old = self.parent.get(place)
-            place = self.place.get(old) if old else None
+            # The older form had some steps more: what leads past the start is the start.
+            place = self.place.get(old, place) if old else place
         return place
 
-    def step_at(self, place, old):
+    def above(self, place):
+        """The places from here to the start."""
         while place:
-            if self.at[place][0] == old:
-                return self.at[place][1:]
-            place = self.up(place, 1)
+            yield place
+            old = self.parent.get(place)
+            place = self.place.get(old) if old else None
+
+    def step_at(self, place, old):
+        for at in self.above(place):
+            if self.at[at][0] == old:
+                return self.at[at][1:]
         return self.step[old]
 
     def fields(self, fields, said, place, here):
@@ -102,15 +109,13 @@ class Function:
         if not out:
             return out
         first = plain(out[0])
-        at = place
-        while at:
+        for at in self.above(place):
             name, ways = self.arms.get(at, (None, []))
             for to, way in ways:
                 if [plain(x) for x in out[: len(way)]] == way:
                     return [name, to] + out[len(way) :]
             if self.at[at][0] == first:
                 break
-            at = self.up(at, 1)
         callee = self.crate + "::" + self.path[-1]
         if first in self.typed.get(here, {}) and out[1:2] == ["given"]:
             return ["type_inv", self.typed[here][first]] + out[2:]
@@ -168,8 +173,8 @@ def chains(text, fn, var, place, goal, said):
             fn.used.add(str(at))
             if goal:
                 return f"(goal.at.{goal} {var}).{at}"
-            said.append(f"record {at}")
-            return f"(TURN {var} {at})"
+            steps = list(fn.above(place)).index(at) if place else n
+            return var + ".before" * steps
         return ".".join([var] + fn.fields(fields, said, fn.up(place, n) if place else None, place))
 
     return CHAIN.sub(turn, text)

@@ -1,5 +1,6 @@
 // Reduces a vector of bytes by slots, one for each digit of its key: the one step of elimination and of solving.
 #![tactic(auto)]
+
 ghost use Rattle.std.specs.Prelude.{◌≡◌, true, ◌+◌, ◌*◌, ◌%◌, ◌^◌, ◌≤◌, ◌<◌, length, take, drop};
 ghost use Rattle.std.specs.Int.Bits.{bit_xor};
 ghost use Rattle.octets.specs.Octets.{bytes};
