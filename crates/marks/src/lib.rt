@@ -1,5 +1,6 @@
 // Marks each row at its arrival number with its uses, as numbers or as pairs of bytes, by the kept place that its arrival was given.
 #![tactic(auto)]
+
 ghost use Rattle.std.specs.Prelude.{◌≡◌, ◌<◌, length, set};
 ghost use Rattle.doubles.specs.Doubles.{pair_at, put_pair};
 ghost use Rattle.places.specs.Places.{given_by};
