@@ -1,5 +1,6 @@
 // Draws a constraint from a seed, by Bob Jenkins's small noncryptographic generator, 32-bit form.
 #![tactic(auto)]
+
 ghost use Rattle.std.specs.Prelude.{◌≡◌, ◌<◌, ◌≤◌};
 ghost use Rattle.draw.specs.Draw as spec;
 
