@@ -1,5 +1,6 @@
 // One field of a frame, tag, length and value: whether it is whole where it is expected, and where the bad byte is if it is not. Document 01, "The frame".
 #![tactic(auto)]
+
 ghost use Rattle.std.specs.Prelude.{◌≡◌, ◌≤◌, length};
 ghost use Rattle.field.specs.Expected.{field_of, placed, expected};
 
