@@ -3,17 +3,17 @@
 use mathlib.Core.Path.{◌≡◌, refl, sym, ap, ap₂, ◌∙◌}
 use mathlib.Core.Bool.{Bool, true, false}
 use mathlib.Core.List.{List}
-use Prim.Native.Nat.{ℕ, suc, ◌+◌, ◌*◌, ◌≤◌, ◌<◌}
+use Prim.Native.Nat.{ℕ, ◌+◌, ◌*◌, ◌≤◌, ◌<◌}
 use native.Mathlib.Nat.{le-div_iff_mul-le, suc-mul}
 use native.Mathlib.Omega.{arith}
 use lib.Dec.{leb, ltb}
-use lib.ListN.{length, take, drop, get_or}
+use lib.ListN.{length, take, drop}
 use borrow.Author.Tests.{leb-true, ltb-true}
 use Rattle.space.proofs.Both.{both}
 use Rattle.octets.specs.Octets.{number, numbers}
 use Rattle.octets.proofs.Views.{take-numbers}
 use Rattle.rows.specs.Rows.{list_row_bytes, row_count, entries_of}
-use Rattle.lists.specs.Lists.{is_entry, size_of, start_of, entry_at}
+use Rattle.lists.specs.Lists.{is_entry, start_of, entry_at}
 use Rattle.lists.proofs.AtArrival.{no_part}
 use Rattle.lists.proofs.Rows.{entry_length, entry-number}
 use Rattle.reading.specs.Orders.{among}

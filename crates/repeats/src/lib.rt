@@ -1,5 +1,6 @@
 // Which rows of a list repeat an earlier one: in seed, constraint and payload, so in every byte of their entries.
 #![tactic(auto)]
+
 ghost use Rattle.std.specs.Prelude.{◌≡◌, ◌*◌, ◌≤◌, eqb, length};
 ghost use Rattle.octets.specs.Octets.{number, numbers};
 ghost use Rattle.reading.specs.Orders.{among};
