@@ -1,5 +1,6 @@
 // The checks 1 to 3 of a list, by lengths alone: document 01, "Answer numbers of a reading".
 #![tactic(auto)]
+
 ghost use Rattle.std.specs.Prelude.{◌≡◌};
 ghost use Rattle.reading.specs.Outcome.{whole_length, room_for};
 ghost use Rattle.gate.specs.Gate.{gate};
