@@ -236,6 +236,7 @@ def convert(crate, path, lts):
     fn.cited = re.sub(r"(?m)^(pub )?[^\s]+ (:|c( κs)?( \S+)* =)|^    [^\s]+$", "", text[: text.rfind("tie.close")])
     fn.named = {}
     fn.used = set()
+    fn.helpers = {}
     for old, need in re.findall(r"(?m)^([^\s(){}:]+) : tie\.Need-([^\s]+)", text):
         if fn.need(need) and fn.need(need)[0][0] != old:
             fn.named[old] = fn.need(need)[0][0]
@@ -361,6 +362,7 @@ def answer(fn, m, heads, above, aliases, said):
         for name, to in fn.named.items():
             turned = re.sub(rf"(?<![\w.'-]){re.escape(name)}(?![\w'-])(?= )", to, turned)
         turned = re.sub(r"\bnot-(?:true|false) (?:_|\S+) (?=c\.)", "", turned)
+        turned = re.sub(r"\.ptr\b", ".ref_ptr", turned)
         turned = by_clause(turned, fn, new)
         for record in sorted(set(re.findall(r"\(goal\.at\.\S+ \w+\)\.[\w-]+", turned))):
             if turned.count(record) > 2:
@@ -378,7 +380,7 @@ def by_clause(body, fn, goal):
         return body
     ends = [m.end() for m in re.finditer(r"\bin\b", body) if body[: m.end()].count("(") == body[: m.end()].count(")")]
     last = body[ends[-1] if ends else 0 :].strip()
-    if re.match(r"\w", last) and not re.match(r"(rw|search|omega|cc|simp|elim|absurd|subst|let|grind)\b", last):
+    if re.match(r"\w", last) and not re.fullmatch(r"[\w.'-]+", last) and not re.match(r"(rw|search|omega|cc|simp|elim|absurd|subst|let|grind)\b", last):
         head = body[: len(body) - len(last)] if body.endswith(last) else body[: body.rindex(last)]
         return head + "record { " + "; ".join(f"{l} = ({last}).{k}" for k, l in enumerate(labels)) + " }"
     if not body.endswith(")"):
@@ -407,6 +409,20 @@ def by_clause(body, fn, goal):
     return before + "record { " + "; ".join(f"{l} = {p}" for l, p in zip(labels, parts)) + " }"
 
 
+def inside(fn, block):
+    """In a helper, another one over an earlier record is written out."""
+    for name, (var, body) in fn.helpers.items():
+
+        def put(m):
+            return "(" + re.sub(rf"(?<![\w.'-]){var}(?![\w'-])", m.group(1), body) + ")"
+
+        block = re.sub(rf"\({re.escape(name)} (\w+(?:\.before)+)\)", put, block)
+    m = re.match(r"(?:--[^\n]*\n)*([^\s(){}:]+) : \((\w+) : tie\.[^\n]*\n(?:unfolding [^\n]*\n)?\1 \2 =\s*((?:.|\n)*)$", block)
+    if m and "unfolding" not in block:
+        fn.helpers[m.group(1)] = (m.group(2), m.group(3).strip())
+    return block
+
+
 def helper(fn, block, aliases, said):
     block = inline(block)
 
@@ -418,6 +434,9 @@ def helper(fn, block, aliases, said):
     for name, path in aliases.items():
         block = re.sub(rf"(?<![\w.'-]){re.escape(name)}(?=\.)", "c" + path, block)
         block = re.sub(rf"\({re.escape(name)} ([\w'.-]+)\)", r"\1" + path, block)
+    for name, path in aliases.items():
+        block = re.sub(rf"(?<![\w.'-]){re.escape(name)}(?![\w'.:-])(?! :)", "c" + path, block)
+    block = inside(fn, block)
     places = []
 
     def type_of(t):

@@ -1,5 +1,6 @@
 // How a state is written where a row is not kept: its uses are counted, and its arrival is given no kept place.
 #![tactic(auto)]
+
 ghost use Rattle.std.specs.Prelude.{◌≡◌, length};
 ghost use Rattle.octets.specs.Octets.{number};
 ghost use Rattle.counting.specs.Counting.{CountRoom, row_counted, counted_state};

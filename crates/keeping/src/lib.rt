@@ -1,5 +1,6 @@
 // How a state is written where a row is kept: its vector in a slot, its head, and the kept place that its arrival is given.
 #![tactic(auto)]
+
 ghost use Rattle.std.specs.Prelude.{◌≡◌, ◌*◌, ◌^◌, ◌≤◌, ◌<◌, length};
 ghost use Rattle.space.specs.Space.{◌⊕◌};
 ghost use Rattle.octets.specs.Octets.{number, bytes, lay};

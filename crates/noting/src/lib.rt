@@ -1,5 +1,6 @@
 // How a state is written before any row is taken in: arrivals in its order, and seeds in its filter.
 #![tactic(auto)]
+
 ghost use Rattle.std.specs.Prelude.{◌≡◌};
 ghost use Rattle.noting.specs.Noting.{ordered_state, forgotten, noted_in, noted_state};
 

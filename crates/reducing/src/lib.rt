@@ -1,5 +1,6 @@
 // What the slots of a state leave of a row.
 #![tactic(auto)]
+
 ghost use Rattle.std.specs.Prelude.{◌≡◌};
 ghost use Rattle.slots.specs.Reducing.{reduce_answer, reduce_work};
 

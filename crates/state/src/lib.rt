@@ -1,6 +1,7 @@
 // The state of an elimination in one buffer: where the slots, the uses, the kept places, the heads, the order and the filter of seeds lie. No other
 // crate has a number of this layout.
 #![tactic(auto)]
+
 ghost use Rattle.std.specs.Prelude.{◌≡◌, ◌+◌, ◌*◌, ◌≤◌};
 ghost use Rattle.places.specs.Places.{most_rows};
 ghost use Rattle.tally.specs.Tally.{most_kept};

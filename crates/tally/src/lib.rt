@@ -1,5 +1,6 @@
 // How often each kept row is used: one use more for each kept place that a tail names.
 #![tactic(auto)]
+
 ghost use Rattle.std.specs.Prelude.{◌≡◌, ◌+◌, ◌*◌, ◌/◌, ◌^◌, ◌<◌, ◌≤◌, length, take, drop};
 ghost use Rattle.octets.specs.Octets.{number, bytes, lay};
 ghost use Rattle.tally.specs.Tally.{Tallied, tail_bytes, most_kept, raised_uses, tallied};
