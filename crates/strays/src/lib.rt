@@ -1,5 +1,6 @@
 // The check 4 of a list: the first row with a stray bit.
 #![tactic(auto)]
+
 ghost use Rattle.std.specs.Prelude.{◌≡◌, ◌-◌, ◌^◌, ◌≤◌, leb, length};
 ghost use Rattle.octets.specs.Octets.{number};
 ghost use Rattle.rows.specs.Rows.{constraint};
