@@ -1,5 +1,6 @@
 // Prints draws: on each line a seed and its constraints for n = 1 to 64. The plain program docs/src/bin/draws.rs prints the same.
 #![tactic(auto)]
+
 ghost use Rattle.std.specs.Prelude.{◌≡◌, ◌<◌, ◌≤◌, length};
 ghost use Rattle.draw.specs.Draw.{drawn, constraint_of};
 
