@@ -1,5 +1,6 @@
 // The checks 1 to 4 of a list, in their order: document 01, "Answer numbers of a reading".
 #![tactic(auto)]
+
 ghost use Rattle.std.specs.Prelude.{◌≡◌};
 ghost use Rattle.checks.specs.Checks.{check_of, all_checks};
 

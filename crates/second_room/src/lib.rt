@@ -1,5 +1,6 @@
 // Whether there is room for a second reading: its list and its buffers, before anything is read. Document 02, wish 1.
 #![tactic(auto)]
+
 ghost use Rattle.std.specs.Prelude.{◌≡◌};
 ghost use Rattle.gate.specs.Gate.{gate};
 ghost use Rattle.second_room.specs.Fits.{fits_too};
