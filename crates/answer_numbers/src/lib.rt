@@ -1,5 +1,6 @@
 // Document 01's numbers of what a reading answers.
 #![tactic(auto)]
+
 ghost use Rattle.std.specs.Prelude.{◌≡◌};
 ghost use Rattle.reading.specs.Answer.{numbered, answer_numbers};
 
