@@ -5,7 +5,7 @@ use mathlib.Core.Path.{◌≡◌, sym, ap, ◌∙◌}
 use Prim.Native.Nat.{ℕ, ◌*◌, ◌^◌}
 use mathlib.Core.Bool.{Bool}
 use mathlib.Core.List.{List, map}
-use lib.ListN.{length, get_or, length-map, get_or-map}
+use lib.ListN.{get_or, length-map, get_or-map}
 use Rattle.space.specs.Lists.{Below}
 use Rattle.space.proofs.Lists.{map_both}
 use Rattle.space.proofs.Xor.{⊕_zero}
