@@ -1,5 +1,6 @@
 // Marks each row at its arrival number with its role, by the kept place that its arrival was given.
 #![tactic(auto)]
+
 ghost use Rattle.std.specs.Prelude.{◌≡◌, ◌<◌, length, set};
 ghost use Rattle.doubles.specs.Doubles.{pair_at};
 ghost use Rattle.places.specs.Places.{given_by};
