@@ -5,12 +5,10 @@ use Prim.Native.Nat.{ℕ}
 use native.Mathlib.Nat.{le_of_eq}
 use native.Mathlib.Omega.{arith}
 use mathlib.Core.Bool.{true, false, not, false≢true}
-use mathlib.Core.List.{List, [], ◌∷◌}
+use mathlib.Core.List.{List}
 use lib.Dec.{ltb}
 use lib.ListN.{length, drop, length-drop}
 use lib.Seq.{length-take-le}
-use types.Run.{OneOf, miss}
-use denote.Enum.Declared.{tag_of}
 use borrow.Author.Tests.{ltb-false, not-false, le-ltb}
 use Rattle.octets.specs.Octets.{number}
 use Rattle.rows.specs.Rows.{shape}
@@ -22,15 +20,14 @@ use Rattle.frame.specs.Layout.{page_at, shape_at, seed_at, payload_at, frame_len
 use Rattle.field.specs.Expected.{field_of, placed, expected}
 use Rattle.frame.specs.Reading.{refusing, behind, first, n_of, l_of, second, third, ended, fourth, good, from_shape, reading}
 use Rattle.frame.specs.Numbers.{frame_numbers, refused, number_of, is_good, place_of, payload_of}
-use Rattle.frame.specs.contracts.Frame.{the_type}
 use Rattle.frame.proofs.Tests.{passes}
 use Rattle.frame.proofs.Whole.{Whole, whole, whole_found}
 
 -- the answers that code takes for a refusal
-pub refused_is : (f : Frame) → OneOf (1 ∷ 2 ∷ 3 ∷ 4 ∷ 5 ∷ []) (tag_of the_type f)
+pub refused_is : (f : Frame) → ((page n l seed : ℕ) → f ≡ frames.Good page n l seed → ⊥)
     → (is_good f ≡ false) × (frame_numbers f ≡ refused (number_of f) (place_of f))
 unfolding frame_numbers
-refused_is (frames.Good page n l seed) o = absurd (miss (1 ∷ 2 ∷ 3 ∷ 4 ∷ 5 ∷ []) 0 tt o)
+refused_is (frames.Good page n l seed) o = absurd (o page n l seed refl)
 refused_is (frames.Short place) o = (refl, refl)
 refused_is (frames.WrongTag place) o = (refl, refl)
 refused_is (frames.WrongLength place) o = (refl, refl)

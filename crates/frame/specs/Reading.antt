@@ -1,5 +1,5 @@
 -- What reading a frame answers. Document 01, "The frame".
-use Rattle.std.specs.Prelude.{ℕ, ◌+◌, cond, not, List, ltb, length, get_or}
+use Rattle.std.specs.Prelude.{ℕ, cond, not, List, ltb, length, get_or}
 use Rattle.octets.specs.Octets.{number}
 use Rattle.rows.specs.Rows.{shape}
 use Rattle.field.specs.declared.Refusal.{Refusal}

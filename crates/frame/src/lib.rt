@@ -1,5 +1,6 @@
 // Reads frames: the bytes that one phone shows and another takes. Document 01, "The frame".
 #![tactic(auto)]
+
 ghost use Rattle.std.specs.Prelude.{◌≡◌, ◌+◌};
 ghost use Rattle.frame.specs.Reading.{reading};
 ghost use Rattle.frame.specs.Numbers.{offset_of, payload_of};
