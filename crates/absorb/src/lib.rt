@@ -1,5 +1,6 @@
 // One row more in the state of an elimination: it is kept, or the uses that it makes of kept rows are counted.
 #![tactic(auto)]
+
 ghost use Rattle.std.specs.Prelude.{◌≡◌, true, ◌≤◌, length, replicate};
 ghost use Rattle.octets.specs.Octets.{number, bytes};
 ghost use Rattle.state.specs.Layout.{vector_bytes, state_bytes};

@@ -1,5 +1,6 @@
 // In which order the rows of a list are taken: the arrival numbers of those that count, written where elimination reads them.
 #![tactic(auto)]
+
 ghost use Rattle.std.specs.Prelude.{◌≡◌, ◌≤◌, length};
 ghost use Rattle.words.specs.Words.{four_of};
 ghost use Rattle.places.specs.Places.{most_rows};
