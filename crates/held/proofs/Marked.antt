@@ -1,9 +1,9 @@
 -- The marks of one arrival. In list order a row is marked kept exactly when it is no sum of rows kept before it in the whole list, and the use of a kept row
 -- counts the rows that count, not kept, whose set contains it. In any order a repeat has 65535 uses and the role 0, as a row that is not kept.
 -- Assumes nothing.
-use mathlib.Core.Path.{◌≡◌, refl, sym, ◌∙◌}
+use mathlib.Core.Path.{◌≡◌, refl, ◌∙◌}
 use Prim.Native.Nat.{ℕ, zero, suc}
-use mathlib.Core.Bool.{Bool, true, false, cond, not, ◌||◌, true≢false}
+use mathlib.Core.Bool.{Bool, true, false, not, ◌||◌, true≢false}
 use mathlib.Core.List.{List, [], ◌∷◌, ◌++◌, map}
 use lib.Dec.{eqb, leb}
 use lib.ListN.{length, get_or, length-map}
