@@ -14,7 +14,7 @@ use Rattle.rows.specs.Rows.{symbols, row_count, entries_of, rows_of, constraint}
 use Rattle.rows.proofs.Shape.{shape_range}
 use Rattle.rows.proofs.Pages.{length_symbols, symbols_below, flat-symbols}
 use Rattle.reading.specs.Reading.{rank}
-use Rattle.reading.specs.Orders.{taken, in_list_order}
+use Rattle.reading.specs.Orders.{in_list_order}
 use Rattle.reading.specs.Marks.{uses_marks, roles_marks, telling}
 use Rattle.reading.specs.Verdict.{answered}
 use Rattle.reading.specs.Outcome.{Lent, ended, told, outcome, gave}
