@@ -1,5 +1,6 @@
 // How many of the rows that are taken agree with a page.
 #![tactic(auto)]
+
 ghost use Rattle.std.specs.Prelude.{◌≡◌};
 ghost use Rattle.agreement.specs.Agreement.{agreement_of};
 
