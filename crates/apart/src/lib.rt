@@ -1,5 +1,6 @@
 // Gathers the entries of a list whose rows do not agree with a page, in their old order. Document 02, wish 1.
 #![tactic(auto)]
+
 ghost use Rattle.std.specs.Prelude.{◌≡◌, ◌+◌, ◌*◌, ◌≤◌, ◌<◌, length};
 ghost use Rattle.apart.specs.Apart.{gathers, appended, gatherable, gathered_from};
 
