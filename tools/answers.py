@@ -127,6 +127,15 @@ class Function:
             said.append("step " + out[0])
         sig = FUNCTIONS.get(callee or "", {})
         for i in range(1, len(out)):
+            # The parameters were nested to the right.
+            if i < len(out) and out[i - 1] in ("new", "auto") and out[i] in ("0", "1"):
+                k = 0
+                while i + k < len(out) and out[i + k] == "1":
+                    k += 1
+                if i + k < len(out) and out[i + k] == "0" and k < len(sig.get("all", [])):
+                    out[i : i + k + 1] = [sig["all"][k]]
+            if i >= len(out):
+                break
             if out[i].isdigit() and out[i - 1] in ("new", "auto") and int(out[i]) < len(sig.get("mut", [])):
                 out[i] = sig["mut"][int(out[i])]
             if out[i].isdigit() and out[i - 1] in ("ensures", "requires"):

@@ -10,13 +10,12 @@ use lib.ListN.{length, take, get_or, replicate, length-replicate}
 use borrow.Author.Tests.{le-leb}
 use Rattle.space.specs.Lists.{Below}
 use Rattle.space.proofs.Lists.{map-append}
-use Rattle.octets.specs.Octets.{number}
 use Rattle.octets.proofs.Digits.{number-front}
 use Rattle.words.specs.Words.{four_of}
 use Rattle.filter.specs.Filter.{filter_bytes, noted, note}
 use Rattle.filter.proofs.Noted.{length-noting, noting-snoc, noted_mem}
 use Rattle.rows.specs.Rows.{seed_bytes, row_bytes, row_count, entries_of, seed}
-use Rattle.lists.specs.Lists.{is_entry, entry_at}
+use Rattle.lists.specs.Lists.{entry_at}
 use Rattle.lists.proofs.AtArrival.{is_entry_lem}
 use Rattle.lists.proofs.Rows.{entry_below, entry-room, entry_length, entry-number}
 use Rattle.reading.specs.Orders.{among}

@@ -1,6 +1,5 @@
 -- `in_list_order` meets its contract: what fits is taken, row by row, and else nothing is written.
 -- Assumes nothing.
-use borrow.Author.Rules.{rules}
 use mathlib.Core.Path.{◌≡◌, sym, ap, ◌∙◌}
 use mathlib.Core.Bool.{true, false}
 use Prim.Native.Nat.{ℕ}

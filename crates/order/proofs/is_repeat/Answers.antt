@@ -1,7 +1,6 @@
 -- `is_repeat` meets its contract: a seed that was not noted is one of no earlier row, and after one that was, the rows are compared.
 -- Assumes nothing.
 use native.Mathlib.Omega.{arith}
-use borrow.Author.Rules.{rules}
 use mathlib.Core.Path.{◌≡◌, sym, ap, ◌∙◌}
 use Prim.Native.Nat.{ℕ}
 use Rattle.octets.proofs.Runs.{known_below}
@@ -9,18 +8,15 @@ use Rattle.noting.specs.Noting.{noted_in, noted_state}
 use Rattle.order.specs.Listed.{seed_at}
 use Rattle.order.proofs.Seeds.{seed_at_lem, told-new}
 use Rattle.order.proofs.is_repeat.Goals as goal
-use Rattle.order.proofs.is_repeat.Goals.{After-note, Start}
-
-abbrev start_of : After-note → Start
-start_of c = c.before.before.before.before.before
+use Rattle.order.proofs.is_repeat.Goals.{After-note}
 
 -- what noting the seed told, and the state with it noted
 noting : (c : After-note)
-    → (c.note.result ≡ noted_in (seed_at (start_of c).args.l (start_of c).args.list.now (start_of c).args.arrival.0) (start_of c).args.state.now)
-    × (c.note.new.state ≡ noted_state (seed_at (start_of c).args.l (start_of c).args.list.now (start_of c).args.arrival.0) (start_of c).args.state.now)
+    → (c.note.result ≡ noted_in (seed_at c.args.l c.args.list.now c.args.arrival.0) c.args.state.now)
+    × (c.note.new.state ≡ noted_state (seed_at c.args.l c.args.list.now c.args.arrival.0) c.args.state.now)
 noting c =
-    let A = (start_of c).args in
-    let N = (start_of c).requires in
+    let A = c.args in
+    let N = c.requires in
     let is : c.seed.result ≡ seed_at A.l A.list.now A.arrival.0 =
     c.seed.ensures ∙ seed_at_lem A.l A.arrival.0 A.list.now (omega (arith, N.has, N.many)) N.has
     (known_below A.list.now c.type_inv.list) in

@@ -1,9 +1,8 @@
 -- `take_each` meets its contract: before each turn the order has what is taken of the entries so far, and the filter has their seeds.
 -- Assumes nothing.
 use native.Mathlib.Omega.{arith}
-use Prim.Native.Nat.{◌-◌}
 use mathlib.Core.Path.{◌∙◌}
-use Rattle.order.proofs.Writing.{Writing, writing_start, writing_next, writing_more, writing_end}
+use Rattle.order.proofs.Writing.{writing_start, writing_next, writing_more, writing_end}
 use Rattle.order.proofs.take_each.Goals as goal
 
 pub loop-i-init : goal.loop-i-init
@@ -29,7 +28,7 @@ loop-i-preserved c =
     let l = c.loop-i in
     let T = c.take_row-taken in
     writing_more c.args.l c.args.list.now F.new.state c.args.m c.requires.0 c.requires.1 (omega (arith, c.requires.2, F.auto.state)) l.state l.i l.taken l.invariant
-    c.loop-i-test.true T.new.1.1.0 T.result T.ensures.answer T.ensures.state T.auto.1.1.0
+    c.loop-i-test.true T.new.state T.result T.ensures.answer T.ensures.state T.auto.state
 
 pub shape_of-state : goal.shape_of-state
 shape_of-state c = c.loop-i.invariant.long ∙ c.forget.auto.state

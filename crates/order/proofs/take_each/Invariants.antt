@@ -1,7 +1,5 @@
-use native.Mathlib.Omega.{arith}
 use Prim.Native.Nat.{◌-◌}
-use mathlib.Core.Path.{◌∙◌}
-use Rattle.order.proofs.Writing.{Writing, writing_start, writing_next, writing_more, writing_end}
+use Rattle.order.proofs.Writing.{Writing}
 use Rattle.order.proofs.take_each.Given as goal
 
 abbrev pub invariant-loop-i : goal.invariant-loop-i

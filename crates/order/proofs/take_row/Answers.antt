@@ -1,8 +1,6 @@
 -- `take_row` meets its contract: a repeat is left out, and any other row is written in the order.
 -- Assumes nothing.
-use native.Mathlib.Omega.{arith}
-use borrow.Author.Rules.{rules}
-use mathlib.Core.Path.{◌≡◌, sym, ap, ◌∙◌}
+use mathlib.Core.Path.{sym, ap, ◌∙◌}
 use Rattle.noting.specs.Noting.{ordered_state}
 use Rattle.order.proofs.Listed.{left_out, taken_in_lem}
 use Rattle.order.proofs.take_row.Goals as goal
