@@ -1,5 +1,6 @@
 // The rows of a list whose role is 2: whether they are as many as there are symbols, and none of them strays.
 #![tactic(auto)]
+
 ghost use Rattle.std.specs.Prelude.{◌≡◌, [], ◌∷◌, ◌-◌, ◌≤◌, length, get_or};
 ghost use Rattle.octets.specs.Octets.{number};
 ghost use Rattle.rows.specs.Rows.{row_count, rows_of};
