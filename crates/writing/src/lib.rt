@@ -1,5 +1,6 @@
 // Writes frames. Document 01, "The frame".
 #![tactic(auto)]
+
 ghost use Rattle.std.specs.Prelude.{◌≡◌};
 ghost use Rattle.writing.specs.Writing.{write_answer, frame_of, room_after};
 
