@@ -109,6 +109,8 @@ class Function:
         if not out:
             return out
         first = plain(out[0])
+        if first not in self.step and first[:1].lower() + first[1:] in self.step:
+            first = first[:1].lower() + first[1:]
         for at in self.above(place):
             name, ways = self.arms.get(at, (None, []))
             for to, way in ways:

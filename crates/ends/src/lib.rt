@@ -1,5 +1,6 @@
 // The two ends of a reading: each row's uses are written from the state, as 16-bit numbers or as pairs of bytes, and then the scratch is cleared.
 #![tactic(auto)]
+
 ghost use Rattle.std.specs.Prelude.{◌≡◌};
 ghost use Rattle.reading.specs.Answer.{answer_numbers};
 ghost use Rattle.state.specs.Layout.{uses_part, places_part};

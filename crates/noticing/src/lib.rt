@@ -1,5 +1,6 @@
 // Whether a row in a store repeats an earlier one. Equal rows have equal seeds, so a row is compared with others only where its seed may have been noted.
 #![tactic(auto)]
+
 ghost use Rattle.std.specs.Prelude.{◌≡◌, ◌≤◌, length};
 ghost use Rattle.noting.specs.Noting.{noted_in, noted_state};
 ghost use Rattle.store.specs.Store.{store_bytes, working_in, with_working};

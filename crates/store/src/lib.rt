@@ -1,5 +1,6 @@
 // The store: the rows of a scan and the working of their elimination in one buffer. Where everything lies in it, and what its header says.
 #![tactic(auto)]
+
 ghost use Rattle.std.specs.Prelude.{◌≡◌, ◌+◌};
 ghost use Rattle.store.specs.Store.{list_start, list_in, working_start, working_in};
 ghost use Rattle.store.specs.Header.{header_of};
