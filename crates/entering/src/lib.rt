@@ -1,5 +1,6 @@
 // The slots of solving, and one row that goes into them.
 #![tactic(auto)]
+
 ghost use Rattle.std.specs.Prelude.{◌≡◌, ◌<◌, length};
 ghost use Rattle.slots.specs.Reducing.{reduce_answer, reduce_work};
 ghost use Rattle.entering.specs.Enter.{slot_bytes, stored, goes_in, slots_with, enter_answer, enter_slots};
