@@ -51,7 +51,7 @@
 //!
 //! - The page is confirmed exactly when no single misread row can have made it wrong: when there is
 //!   no other page that all rows but at most one agree with, repeats not counted
-//!   (`confirmed-means`, `one-misread`).
+//!   (`confirmed_means`, `one-misread`).
 //! - Where the rank is n and a picked row has no use, any other payload in that row, and in its
 //!   repeats, gives another page with the same rank, agreement, kept rows and uses
 //!   (`unconfirmed`): no number and no mark tells the two apart.
