@@ -1,5 +1,6 @@
 // The page that filled slots give, symbol by symbol.
 #![tactic(auto)]
+
 ghost use Rattle.std.specs.Prelude.{◌≡◌, ◌+◌, ◌*◌, ◌≤◌, ◌<◌, length};
 ghost use Rattle.octets.specs.Octets.{bytes, flat, over};
 ghost use Rattle.page_of_slots.specs.Symbols.{slots_in, symbol_in, page_in, page_after};
