@@ -1,5 +1,6 @@
 // Algorithm 2 over bytes: which rows of a list are kept, and how often each is used. Rows are taken in the order that stands in the state.
 #![tactic(auto)]
+
 ghost use Rattle.std.specs.Prelude.{◌≡◌, ◌<◌, ◌≤◌, length};
 ghost use Rattle.places.specs.Places.{most_rows};
 ghost use Rattle.state.specs.Layout.{state_bytes, order_in};

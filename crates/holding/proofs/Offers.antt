@@ -13,7 +13,7 @@ use Rattle.space.specs.Lists.{Below}
 use Rattle.space.proofs.Lists.{below_map, below_append}
 use Rattle.rows.specs.Rows.{row_bytes, vector}
 use Rattle.rows.proofs.Entries.{vector_lt}
-use Rattle.reading.specs.Reading.{kept_rows, rank, uses}
+use Rattle.reading.specs.Reading.{kept_rows, rank}
 use Rattle.reading.specs.Orders.{taken}
 use Rattle.reading.proofs.Pick.{length-uses}
 use Rattle.basis.specs.Algorithm2.{Pass, pass, Working, step, algorithm2}

@@ -1,9 +1,7 @@
 -- `is_repeat` meets its contract: a row whose seed was not noted is taken for new, and any other is compared with the earlier ones.
 -- Assumes nothing.
-use native.Mathlib.Omega.{arith}
-use borrow.Author.Rules.{rules}
 use mathlib.Core.Path.{◌≡◌, sym, ap, ◌∙◌}
-use mathlib.Core.Bool.{Bool, true, false}
+use mathlib.Core.Bool.{true, false}
 use mathlib.Core.List.{List}
 use Prim.Native.Nat.{ℕ, ◌≤◌}
 use lib.ListN.{length}
@@ -13,7 +11,7 @@ use Rattle.store.specs.Store.{store_bytes, list_in, working_in, with_working}
 use Rattle.noticing.specs.Noticing.{seed_in}
 use Rattle.noticing.proofs.Noticed.{too_short, noticed_is, repeat_is, noted-list}
 use Rattle.noticing.proofs.is_repeat.Goals as goal
-use Rattle.noticing.proofs.is_repeat.Goals.{After-note, After-seed, Start}
+use Rattle.noticing.proofs.is_repeat.Goals.{After-note}
 
 pub returns-then-store-lt-BYTES : goal.returns-then-store-lt-BYTES
 unfolding store_bytes
@@ -25,24 +23,21 @@ unfolding store_bytes
 note-requires c = c.if-store-lt-BYTES.false
 
 -- the store is long enough, and what noting the seed told and left
-abbrev start_of : After-note → Start
-start_of c = c.before.before.before.before.before
-
-long : (c : After-note) → store_bytes ≤ length (start_of c).args.store.now
+long : (c : After-note) → store_bytes ≤ length c.args.store.now
 unfolding store_bytes
 long c = c.if-store-lt-BYTES.false
 
-told : (c : After-note) → let A = (start_of c).args in c.note.result ≡ noted_in (seed_in A.l A.arrival.0 A.store.now) (working_in A.store.now)
-told c = let A = (start_of c).args in c.note.ensures.answer ∙ ap (λ (s : ℕ). noted_in s (working_in A.store.now)) c.seed.ensures
+told : (c : After-note) → let A = c.args in c.note.result ≡ noted_in (seed_in A.l A.arrival.0 A.store.now) (working_in A.store.now)
+told c = let A = c.args in c.note.ensures.answer ∙ ap (λ (s : ℕ). noted_in s (working_in A.store.now)) c.seed.ensures
 
 left : (c : After-note)
-    → let A = (start_of c).args in c.note.new.store ≡ with_working (noted_state (seed_in A.l A.arrival.0 A.store.now) (working_in A.store.now)) A.store.now
-left c = let A = (start_of c).args in c.note.ensures.store ∙ ap (λ (s : ℕ). with_working (noted_state s (working_in A.store.now)) A.store.now) c.seed.ensures
+    → let A = c.args in c.note.new.store ≡ with_working (noted_state (seed_in A.l A.arrival.0 A.store.now) (working_in A.store.now)) A.store.now
+left c = let A = c.args in c.note.ensures.store ∙ ap (λ (s : ℕ). with_working (noted_state s (working_in A.store.now)) A.store.now) c.seed.ensures
 
 pub returns-then-note : goal.returns-then-note
 returns-then-note c =
-    let k = (goal.at.returns-then-note c).After-seed in
-    let A = (start_of k).args in
+    let k = (goal.at.returns-then-note c).After-note in
+    let A = c.args in
     let rest = ap list_in (left k) ∙ noted-list A.l A.arrival.0 A.store.now (long k) in record {
       answer = c.is_repeat.ensures ∙ ap (λ (list : List ℕ). repeated A.l A.arrival.0 list) (c.list.ensures.shows ∙ rest)
           ∙ sym (repeat_is A.l A.arrival.0 A.store.now (long k) true (sym (told k) ∙ c.if-note.true));
@@ -52,4 +47,4 @@ returns-then-note c =
 pub returns : goal.returns
 returns c =
     let k = (goal.at.returns c).After-note in
-    let A = (start_of k).args in record { answer = sym (repeat_is A.l A.arrival.0 A.store.now (long k) false (sym (told k) ∙ c.if-note.false)); store = left k ∙ sym (noticed_is A.l A.arrival.0 A.store.now (long k)) }
+    let A = c.args in record { answer = sym (repeat_is A.l A.arrival.0 A.store.now (long k) false (sym (told k) ∙ c.if-note.false)); store = left k ∙ sym (noticed_is A.l A.arrival.0 A.store.now (long k)) }
