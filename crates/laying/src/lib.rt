@@ -1,5 +1,6 @@
 // Lays the rows of frames into a list. Document 01, "The frame": "Laying a frame into a list".
 #![tactic(auto)]
+
 ghost use Rattle.std.specs.Prelude.{◌≡◌, ◌+◌, ◌*◌, true, ◌++◌, length};
 ghost use Rattle.octets.specs.Octets.{bytes};
 ghost use Rattle.rows.specs.Rows.{shape, seed_bytes, entry_head_bytes, list_row_bytes};
