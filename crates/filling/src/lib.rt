@@ -1,5 +1,6 @@
 // The rows of a list with role 2 go into slots.
 #![tactic(auto)]
+
 ghost use Rattle.std.specs.Prelude.{◌≡◌, [], ◌∷◌, ◌-◌, ◌≤◌, length};
 ghost use Rattle.octets.specs.Octets.{number};
 ghost use Rattle.rows.specs.Rows.{row_count, rows_of};
