@@ -1,5 +1,6 @@
 // Document 01's numbers of what reading a frame answers, and of what laying it does.
 #![tactic(auto)]
+
 ghost use Rattle.std.specs.Prelude.{◌≡◌};
 ghost use Rattle.frame.specs.Numbers.{refused, frame_numbers};
 ghost use Rattle.telling.specs.Told.{told_by};
