@@ -1,5 +1,6 @@
 // Takes in the newest row of a store: the one that stands in its list behind those that the header counts.
 #![tactic(auto)]
+
 ghost use Rattle.std.specs.Prelude.{◌≡◌, ◌≤◌, ◌<◌, length};
 ghost use Rattle.lists.specs.Lists.{row_at};
 ghost use Rattle.echelon.specs.Eliminating.{rank_after};

@@ -1,5 +1,6 @@
 // Opens a store for a page. Document 02, wish 5.
 #![tactic(auto)]
+
 ghost use Rattle.std.specs.Prelude.{◌≡◌, ◌≤◌, [], ◌∷◌, ◌++◌, length};
 ghost use Rattle.octets.specs.Octets.{bytes, over};
 ghost use Rattle.store.specs.Store.{store_bytes};
