@@ -10,7 +10,6 @@ use Rattle.lists.specs.Lists.{row_at}
 use Rattle.store.specs.Store.{list_in, working_in, with_working}
 use Rattle.newest.specs.Newest.{admission}
 use Rattle.newest.proofs.Taken.{row_short, copied_row}
-use borrow.Author.Rules.{rules}
 use Rattle.newest.proofs.admit_row.Goals as goal
 use Rattle.newest.proofs.admit_row.Goals.{After-copy, After-row-row}
 

@@ -1,13 +1,10 @@
 -- `take` meets its contract, by what the check of the header says.
 -- Assumes nothing.
-use native.Mathlib.Omega.{arith}
-use mathlib.Core.Path.{◌≡◌, sym, ap, ◌∙◌}
-use mathlib.Core.List.{List}
+use mathlib.Core.Path.{sym, ap, ◌∙◌}
 use Rattle.octets.proofs.Runs.{known_below}
 use Rattle.store.proofs.Checked.{good_means}
 use Rattle.newest.specs.Newest.{taken_by, newest_taken}
 use Rattle.newest.proofs.Taken.{ranged}
-use borrow.Author.Rules.{rules}
 use Rattle.newest.proofs.take.Goals as goal
 
 pub take_row-requires : goal.take_row-requires

@@ -1,12 +1,10 @@
 -- `take_in` meets its contract: the row is taken in, and then the counts are written.
 -- Assumes nothing.
-use native.Mathlib.Omega.{arith}
-use mathlib.Core.Path.{◌≡◌, ap, ap₂, ◌∙◌}
+use mathlib.Core.Path.{ap, ap₂, ◌∙◌}
 use mathlib.Core.List.{List}
 use Prim.Native.Nat.{ℕ, ◌+◌}
 use Rattle.echelon.specs.Eliminating.{rank_after}
 use Rattle.newest.specs.Newest.{counted_in, admitted}
-use borrow.Author.Rules.{rules}
 use Rattle.newest.proofs.take_in.Goals as goal
 
 pub returns : goal.returns

@@ -1,12 +1,9 @@
 -- `take_row` meets its contract: a repeat is counted, and any other row is taken in.
 -- Assumes nothing.
-use native.Mathlib.Omega.{arith}
 use mathlib.Core.Path.{sym, ap, ◌∙◌}
-use mathlib.Core.List.{List}
 use Prim.Native.Nat.{◌+◌}
 use Rattle.newest.specs.Newest.{counted_in, admitted}
 use Rattle.newest.proofs.Taken.{taken_repeat, taken-new}
-use borrow.Author.Rules.{rules}
 use Rattle.newest.proofs.take_row.Goals as goal
 
 pub returns-then-is_repeat : goal.returns-then-is_repeat
