@@ -1,6 +1,7 @@
 // Making a row and writing a frame as functions of C, each by itself, so that the tests can read in compiled code how much stack it takes.
 // No app links them.
 #![tactic(auto)]
+
 ghost use Rattle.std.specs.Prelude.{◌≡◌, length};
 ghost use Rattle.making.specs.Making as making;
 ghost use Rattle.writing.specs.Writing as writing;

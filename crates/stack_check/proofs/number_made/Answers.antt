@@ -1,0 +1,25 @@
+-- `number_made` meets its contract: each arm of its match is a clause of the definition.
+-- Assumes nothing.
+use mathlib.Core.Path.{sym, ap}
+use Rattle.making.specs.Making.{number_of}
+use Rattle.stack_check.proofs.number_made.Goals as goal
+
+pub returns-in-Row : goal.returns-in-Row
+unfolding number_of
+returns-in-Row c = sym (ap number_of c.in-Row.is)
+
+pub returns-in-Shape : goal.returns-in-Shape
+unfolding number_of
+returns-in-Shape c = sym (ap number_of c.in-Shape.is)
+
+pub returns-in-Room : goal.returns-in-Room
+unfolding number_of
+returns-in-Room c = sym (ap number_of c.in-Room.is)
+
+pub returns-in-Stray : goal.returns-in-Stray
+unfolding number_of
+returns-in-Stray c = sym (ap number_of c.in-Stray.is)
+
+pub returns-in-Length : goal.returns-in-Length
+unfolding number_of
+returns-in-Length c = sym (ap number_of c.in-Length.is)
