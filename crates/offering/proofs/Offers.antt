@@ -1,13 +1,10 @@
 -- The answer of an offer, and the store afterwards, by what the header and the laying say.
 -- Assumes nothing.
 use mathlib.Core.Path.{◌≡◌, refl, sym, ap, ◌∙◌}
-use mathlib.Core.List.{List, [], ◌∷◌}
+use mathlib.Core.List.{List}
 use Prim.Native.Nat.{ℕ}
-use types.Run.{OneOf, miss}
-use denote.Enum.Declared.{tag_of}
 use Rattle.laying.specs.declared.Laid.{Laid}
 use Rattle.laying.specs.declared.Laid.TheVariants as laids
-use Rattle.laying.specs.contracts.Laid.{the_type}
 use Rattle.store.specs.declared.Head.{Head}
 use Rattle.store.specs.declared.Header.TheVariants as header
 use Rattle.store.specs.Header.{header_of}
@@ -39,11 +36,11 @@ module _ (frame store : List ℕ) where
     offer_row row laid e = sym (ap (λ (x : Laid). taken_after x laid) row) ∙ offer_after laid e
 
     -- an answer that is no row
-    pub offer_none : OneOf (1 ∷ 2 ∷ 3 ∷ 4 ∷ 5 ∷ []) (tag_of the_type a) → (laid : List ℕ) → laid ≡ laid_store frame h store → laid ≡ offered_store frame store
+    pub offer_none : (a ≡ laids.Row → ⊥) → (laid : List ℕ) → laid ≡ laid_store frame h store → laid ≡ offered_store frame store
     offer_none o laid e = sym (nothing a o) ∙ offer_after laid e
       where
-        nothing : (x : Laid) → OneOf (1 ∷ 2 ∷ 3 ∷ 4 ∷ 5 ∷ []) (tag_of the_type x) → taken_after x laid ≡ laid
-        nothing laids.Row o = absurd (miss (1 ∷ 2 ∷ 3 ∷ 4 ∷ 5 ∷ []) 0 tt o)
+        nothing : (x : Laid) → (x ≡ laids.Row → ⊥) → taken_after x laid ≡ laid
+        nothing laids.Row o = absurd (o refl)
         nothing laids.Shape o = unfold taken_after in refl
         nothing (laids.Refused f) o = unfold taken_after in refl
         nothing laids.OtherPage o = unfold taken_after in refl

@@ -1,5 +1,6 @@
 // Offers a frame to a store: its row is laid into the list and taken in, or it is refused and the store stays as it was. Document 02, wish 5.
 #![tactic(auto)]
+
 ghost use Rattle.std.specs.Prelude.{◌≡◌, ◌*◌, ◌≤◌, length};
 ghost use Rattle.rows.specs.Rows.{list_row_bytes};
 ghost use Rattle.laying.specs.Laying.{laid, frame_entry, list_after};
