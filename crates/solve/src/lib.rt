@@ -1,5 +1,6 @@
 // From the picked rows to the page, or singular.
 #![tactic(auto)]
+
 ghost use Rattle.std.specs.Prelude.{◌≡◌, length};
 ghost use Rattle.entering.specs.Enter.{slot_bytes};
 ghost use Rattle.solve.specs.Solve.{solvable, solve_answer, solve_page, solve_slots};
