@@ -16,7 +16,7 @@ use Rattle.entering.specs.Enter.{slot_bytes}
 use Rattle.solve.specs.declared.Solved.{Solved}
 use Rattle.solve.specs.declared.Solved.TheVariants as solved
 use Rattle.solve.specs.Solve.{solvable, solve_answer, solve_page, solve_slots}
-use Rattle.tail.specs.Tail.{Ending, settled_by, settled}
+use Rattle.tail.specs.Tail.{settled_by, settled}
 
 module _ (rank n l : ℕ) (list : List ℕ) (taken : ℕ) (roles state page : List ℕ) where
   -- by what solving answered and left

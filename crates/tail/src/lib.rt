@@ -1,5 +1,6 @@
 // From a state of elimination to the answer: the rows picked, the roles, the page and its agreement. Whoever holds such a state ends here.
 #![tactic(auto)]
+
 ghost use Rattle.std.specs.Prelude.{◌≡◌};
 ghost use Rattle.tail.specs.Tail.{ends, settled, concluded, roles_in, finished};
 
