@@ -2,7 +2,7 @@
 -- Assumes nothing.
 use mathlib.Core.Path.{◌≡◌, refl, sym, ap, ◌∙◌}
 use Prim.Native.Nat.{ℕ, suc}
-use mathlib.Core.Bool.{Bool, true, false, cond, ◌||◌, false≢true}
+use mathlib.Core.Bool.{Bool, true, false, cond, ◌||◌}
 use mathlib.Core.List.Memᴰ
 use mathlib.Core.List.{List, [], ◌∷◌, map, Memᴰ}
 use lib.Dec.{eqb}
@@ -28,6 +28,7 @@ passing p (x ∷ xs) = go (p x) refl (passing p xs)
 
 passes : (p : ℕ → Bool) (xs : List ℕ) (a : ℕ) → Memᴰ a xs → p a ≡ true → Memᴰ a (select (map p xs) xs)
 unfolding select
+passes p [] a x'' h = elim x'' [ ]
 passes p (x ∷ xs) a (Memᴰ.head e) h = rw (← e, h) (Memᴰ.head refl)
 passes p (x ∷ xs) a (Memᴰ.tail m) h = go (p x) (passes p xs a m h)
   where
