@@ -1,13 +1,12 @@
 -- What asking leaves, by its steps: the tail ends from the store's working, the uses are written from the state that it leaves, and the scratch is cleared.
 -- Assumes nothing.
 use mathlib.Core.Path.{◌≡◌, sym, ap, ap₂, ◌∙◌}
-use mathlib.Core.Bool.{Bool, true, false, not}
+use mathlib.Core.Bool.{Bool, true, false}
 use mathlib.Core.List.{List}
 use Prim.Native.Nat.{ℕ, ◌*◌, ◌/◌, ◌≤◌}
 use native.Mathlib.Omega.{arith}
 use lib.ListN.{length, take, drop, take-append-drop}
 use lib.Seq.{length-take-le}
-use borrow.Author.Tests.{not-true, not-false}
 use Rattle.octets.specs.Octets.{over}
 use Rattle.reading.specs.declared.Answer.{Answer}
 use Rattle.reading.specs.declared.Answer.TheVariants as answer
@@ -69,15 +68,15 @@ module _ (store page₀ uses₀ roles₀ scratch₀ : List ℕ) where
     fits = room_for (h.n * h.l) h.rows (length page₀) (length uses₀ / 2) (length roles₀) (length scratch₀)
 
     module _ (fit : Bool) (is : fit ≡ fits) where
-      pub asked-room : not fit ≡ true → asking (said.Rows answer.Room h.rows) page₀ uses₀ roles₀ scratch₀ ≡ asked store page₀ uses₀ roles₀ scratch₀
+      pub asked-room : fit ≡ false → asking (said.Rows answer.Room h.rows) page₀ uses₀ roles₀ scratch₀ ≡ asked store page₀ uses₀ roles₀ scratch₀
       unfolding asked asked_by answered
-      asked-room no_room = rw (← good) (rw (sym is ∙ not-true fit no_room))
+      asked-room no_room = rw (← good) (rw (sym is ∙ no_room))
 
-      pub asked-rows : not fit ≡ false → (a : Answer) (page uses roles scratch : List ℕ) → answering a page uses roles scratch ≡ ended h store page₀ uses₀ roles₀ scratch₀
+      pub asked-rows : fit ≡ true → (a : Answer) (page uses roles scratch : List ℕ) → answering a page uses roles scratch ≡ ended h store page₀ uses₀ roles₀ scratch₀
           → asking (said.Rows a h.rows) page uses roles scratch ≡ asked store page₀ uses₀ roles₀ scratch₀
       unfolding asked asked_by answered
       asked-rows room a page uses roles scratch e =
-          rw (← good) (rw (sym is ∙ not-false fit room) (ap (λ (o : Outcome). record { answer = said.Rows o.answer h.rows; lent = o.lent }) e))
+          rw (← good) (rw (sym is ∙ room) (ap (λ (o : Outcome). record { answer = said.Rows o.answer h.rows; lent = o.lent }) e))
 
-      pub asked-wide : not fit ≡ false → scratch_bytes ≤ length scratch₀
-      asked-wide room = room-scratch (h.n * h.l) h.rows (length page₀) (length uses₀ / 2) (length roles₀) (length scratch₀) (sym is ∙ not-false fit room)
+      pub asked-wide : fit ≡ true → scratch_bytes ≤ length scratch₀
+      asked-wide room = room-scratch (h.n * h.l) h.rows (length page₀) (length uses₀ / 2) (length roles₀) (length scratch₀) (sym is ∙ room)

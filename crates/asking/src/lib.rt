@@ -1,5 +1,6 @@
 // Asks a store for its answer: the tail of a reading, from a copy of the working. The store stays as it is. Document 02, wish 5.
 #![tactic(auto)]
+
 ghost use Rattle.std.specs.Prelude.{◌≡◌, ◌≤◌, length, take};
 ghost use Rattle.octets.specs.Octets.{over};
 ghost use Rattle.places.specs.Places.{most_rows};
