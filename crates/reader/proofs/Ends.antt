@@ -6,7 +6,7 @@ use native.Mathlib.Omega.{arith}
 use mathlib.Core.List.{List, ◌++◌}
 use lib.ListN.{length}
 use Rattle.space.specs.Lists.{Below}
-use Rattle.octets.specs.Octets.{numbers, flat, over}
+use Rattle.octets.specs.Octets.{flat, over}
 use Rattle.octets.proofs.Runs.{length-numbers}
 use Rattle.octets.proofs.Back.{over_same, over-flat}
 use Rattle.doubles.specs.Doubles.{pairs_in}

@@ -1,5 +1,6 @@
 // Reads a list of rows: the checks, the order, elimination and the tail; then one of two ends writes the uses, as 16-bit numbers or as pairs of bytes.
 #![tactic(auto)]
+
 ghost use Rattle.std.specs.Prelude.{◌≡◌, ◌≤◌, length};
 ghost use Rattle.octets.specs.Octets.{over};
 ghost use Rattle.reading.specs.Outcome.{outcome, zeros, scratch_bytes};
