@@ -1,5 +1,6 @@
 // What a line of the page reader's input gives, after the lines before it. Document 01, "The page reader program".
 #![tactic(auto)]
+
 ghost use Rattle.std.specs.Prelude.{◌≡◌, ◌≤◌, length};
 ghost use Rattle.frame.specs.Numbers as frames;
 ghost use Rattle.laying.specs.Laying as laying;

@@ -4,17 +4,14 @@ use mathlib.Core.Path.{◌≡◌, refl, sym, ◌∙◌}
 use Prim.Native.Nat.{ℕ, ◌/◌, ◌%◌, ◌≤◌, ◌<◌}
 use native.Mathlib.Omega.{arith}
 use mathlib.Core.Bool.{Bool, true, false, cond, not, ◌||◌, true≢false}
-use mathlib.Core.List.{List, [], ◌∷◌}
+use mathlib.Core.List.{List}
 use lib.Dec.{eqb, ltb}
 use lib.ListN.{length, take}
-use types.Run.{OneOf, miss}
-use denote.Enum.Declared.{tag_of}
 use borrow.Author.Tests.{eq-eqb, ne_eqb, lt-ltb, le-ltb, eqb-true, ltb-false}
 use Rattle.octets.specs.Octets.{over}
 use Rattle.octets.proofs.Runs.{over_none, take-over}
 use Rattle.text.specs.declared.Hex.TheVariants.{Bytes, Bad, Room}
 use Rattle.text.specs.Hex.{all_digits, pairs, most_characters, bad, unhexed, unhexed_bytes, unhexed_frame}
-use Rattle.text.specs.contracts.Hex.{the_type}
 use Rattle.text.proofs.Digits.{length_pairs}
 
 -- ---- a bad line
@@ -81,11 +78,11 @@ module _ (line frame : List ℕ) where
           (f, omega arith, rw (← (unhex_bytes line frame f fits).1) (take-over (pairs line) frame k (length_pairs line ∙ half)))
 
   -- no bytes, where there is room for any line: the line is bad
-  pub none_told : 128 ≤ length frame → OneOf (1 ∷ 2 ∷ []) (tag_of the_type (unhexed line (length frame))) → bad line ≡ true
-  none_told room o = go (bad line) refl
+  pub none_told : 128 ≤ length frame → ((k : ℕ) → unhexed line (length frame) ≡ Bytes k → ⊥) → bad line ≡ true
+  none_told room none = go (bad line) refl
     where
       go : (b : Bool) → bad line ≡ b → b ≡ true
       go true f = refl
       go false f =
           let short : length line ≤ 256 = (good line f).1 in
-          absurd (miss (1 ∷ 2 ∷ []) 0 tt (rw (← (unhex_bytes line frame f (omega arith)).0) at o))
+          absurd (none (length line / 2) (sym (unhex_bytes line frame f (omega arith)).0))
