@@ -4,7 +4,7 @@ use mathlib.Core.Path.{◌≡◌, sym, ap, ◌∙◌}
 use Prim.Native.Nat.{ℕ, ◌/◌, ◌≤◌}
 use native.Mathlib.Omega.{arith}
 use mathlib.Core.List.{List, ◌++◌}
-use lib.ListN.{length}
+use lib.ListN.{length, take, drop, replicate}
 use Rattle.space.specs.Lists.{Below}
 use Rattle.octets.specs.Octets.{flat, over}
 use Rattle.octets.proofs.Runs.{length-numbers}
@@ -16,7 +16,8 @@ use Rattle.reading.specs.declared.Answer.{Answer}
 use Rattle.reading.specs.Answer.{answer_numbers}
 use Rattle.reading.specs.Orders.{in_list_order}
 use Rattle.reading.specs.Marks.{uses_marks}
-use Rattle.reading.specs.Outcome.{Lent, passes, checks, outcome, zeros}
+use Rattle.ends.proofs.Clearing.{cleared-part, cleared_is}
+use Rattle.reading.specs.Outcome.{scratch_bytes, Lent, passes, checks, outcome, zeros}
 use Rattle.reading.proofs.Checks.{passed, roomy-fits}
 use Rattle.reading.proofs.Given.{outcome-refused, outcome-read}
 use Rattle.reading.proofs.Spread.{length_marks}
@@ -30,6 +31,10 @@ use Rattle.marks.specs.Mark.{uses_after, pairs_after}
 use Rattle.concluding.proofs.Marks.{uses-after, pairs-after}
 use Rattle.reader.specs.Reader.{buffers, outcome_of, Reads}
 use Rattle.reader.specs.Pairs.{pair_counts, counted, in_pairs}
+
+-- the first 32,768 bytes were lent and came back cleared
+pub cleared : (scratch part : List ℕ) → scratch_bytes ≤ length scratch → part ≡ replicate (length (take 32768 scratch)) 0 → part ++ drop 32768 scratch ≡ over zeros scratch
+cleared scratch part room e = cleared-part scratch part room e ∙ cleared_is scratch room
 
 -- a longer state tells the same
 pub reads-longer : (n l : ℕ) (list page₀ roles₀ : List ℕ) (a : Answer) (page roles state more : List ℕ) → state_bytes ≤ length state

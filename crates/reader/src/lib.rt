@@ -3,7 +3,10 @@
 
 ghost use Rattle.std.specs.Prelude.{◌≡◌, ◌≤◌, length};
 ghost use Rattle.octets.specs.Octets.{over};
+ghost use Rattle.reading.specs.Answer.{answer_numbers};
 ghost use Rattle.reading.specs.Outcome.{outcome, zeros, scratch_bytes};
+ghost use Rattle.state.specs.Layout.{uses_part, places_part};
+ghost use Rattle.marks.specs.Mark.{uses_after, pairs_after};
 ghost use Rattle.reader.specs.Reader.{buffers, outcome_of, Passing, Reads};
 ghost use Rattle.reader.specs.Pairs.{in_pairs};
 
@@ -46,6 +49,46 @@ fn read_in(
     read_rows(n, l, list, page, roles, &mut scratch[..state::BYTES])
 }
 
+// ---- the two ends
+
+// "They set the first 32,768 scratch bytes to zero."
+fn clear_scratch(scratch: &mut [u8])
+    requires { scratch_bytes ≤ length scratch.old }
+    ensures { scratch.new ≡ over zeros scratch.old }
+{
+    octets::clear(&mut scratch[..gate::SCRATCH]);
+}
+
+// The uses of so many rows as 16-bit numbers, and then the scratch is cleared.
+fn end_in_numbers(answer: Answer, rows: usize, uses: &mut [u16], scratch: &mut [u8])
+    requires { scratch_bytes ≤ length scratch.old }
+    ensures uses { uses.new ≡ uses_after (places_part rows scratch.old) (uses_part (answer_numbers answer).rank scratch.old) uses.old }
+    ensures scratch { scratch.new ≡ over zeros scratch.old }
+{
+    let rank = answer_numbers::numbers_of(answer).rank;
+    marks::put_uses(
+        state::places(scratch, rows),
+        state::uses(scratch, rank),
+        uses,
+    );
+    clear_scratch(scratch);
+}
+
+// The same as pairs of bytes, the higher byte first.
+fn end_in_pairs(answer: Answer, rows: usize, uses: &mut [u8], scratch: &mut [u8])
+    requires { scratch_bytes ≤ length scratch.old }
+    ensures uses { uses.new ≡ pairs_after (places_part rows scratch.old) (uses_part (answer_numbers answer).rank scratch.old) uses.old }
+    ensures scratch { scratch.new ≡ over zeros scratch.old }
+{
+    let rank = answer_numbers::numbers_of(answer).rank;
+    marks::put_pairs(
+        state::places(scratch, rows),
+        state::uses(scratch, rank),
+        uses,
+    );
+    clear_scratch(scratch);
+}
+
 // ---- the readings
 
 // Reads a list: document 01, "How a list is read".
@@ -73,7 +116,7 @@ pub fn read_list(
         Checked::Refused(answer) => answer,
         Checked::Passed => {
             let answer = read_in(n, l, list, page, roles, scratch);
-            ends::in_numbers(answer, lists::count(list.len(), l), uses, scratch);
+            end_in_numbers(answer, lists::count(list.len(), l), uses, scratch);
             answer
         }
     }
@@ -104,7 +147,7 @@ pub fn read_pairs(
         Checked::Refused(answer) => answer,
         Checked::Passed => {
             let answer = read_in(n, l, list, page, roles, scratch);
-            ends::in_pairs(answer, lists::count(list.len(), l), uses, scratch);
+            end_in_pairs(answer, lists::count(list.len(), l), uses, scratch);
             answer
         }
     }

@@ -11,7 +11,7 @@ use Rattle.reading.proofs.Checks.{passed, roomy-fits}
 use Rattle.state.specs.Layout.{uses_part, places_part}
 use Rattle.marks.specs.Mark.{uses_after}
 use Rattle.checks.specs.Checks.{check_of}
-use Rattle.ends.proofs.Clearing.{has-state, cleared_since}
+use Rattle.ends.proofs.Clearing.{has-state}
 use Rattle.reader.specs.Reader.{buffers}
 use Rattle.reader.proofs.Ends.{checks_say, says_passed, says_refused, numbers_end}
 use native.Mathlib.Omega.{arith}
@@ -34,6 +34,9 @@ read_in-answer-requires c =
     let room = wide (goal.at.read_in-answer-requires c).In-Passed in
     (record { uses = c.args.uses.now; scratch = c.args.scratch.now; passes = passing (goal.at.read_in-answer-requires c).In-Passed; whole = has-state (length c.args.scratch.now) room }, room)
 
+pub end_in_numbers-requires : goal.end_in_numbers-requires
+end_in_numbers-requires c = omega (arith, wide (goal.at.end_in_numbers-requires c).In-Passed, c.read_in-answer.auto.scratch)
+
 pub returns-in-Refused : goal.returns-in-Refused
 returns-in-Refused c =
     let own = buffers c.args.page.now c.args.uses.now c.args.roles.now c.args.scratch.now in
@@ -44,9 +47,9 @@ pub returns-in-Passed : goal.returns-in-Passed
 unfolding row_count
 returns-in-Passed c =
     let R = c.read_in-answer in
-    let E = c.in_numbers in
+    let E = c.end_in_numbers in
     let state : List ℕ = R.new.scratch in
     numbers_end c.args.n c.args.l c.args.list.now (own (goal.at.returns-in-Passed c).In-Passed) (passing (goal.at.returns-in-Passed c).In-Passed)
     R.result R.new.page R.new.roles state E.new.uses E.new.scratch R.ensures.reads
     (E.ensures.uses ∙ ap (λ (m : ℕ). uses_after (places_part m state) (uses_part (answer_numbers R.result).rank state) c.args.uses.now) c.count.ensures)
-    (cleared_since c.args.scratch.now state E.new.scratch (omega (arith, wide (goal.at.returns-in-Passed c).In-Passed, R.auto.scratch)) R.ensures.behind E.ensures.scratch)
+    (E.ensures.scratch ∙ R.ensures.behind)

@@ -14,7 +14,7 @@ use Rattle.state.specs.Layout.{uses_part, places_part}
 use Rattle.marks.specs.Mark.{pairs_after}
 use Rattle.checks.specs.declared.Checked.TheVariants.{Passed}
 use Rattle.checks.specs.Checks.{check_of, all_checks}
-use Rattle.ends.proofs.Clearing.{has-state, cleared_since}
+use Rattle.ends.proofs.Clearing.{has-state}
 use Rattle.reader.specs.Reader.{buffers}
 use Rattle.reader.specs.Pairs.{pair_counts, counted}
 use Rattle.reader.proofs.Ends.{checks_say, says_passed, counts-long, pairs-refused, pairs_end}
@@ -48,6 +48,9 @@ read_in-answer-requires c =
     let room = wide k c.in-Passed.is in
     (record { uses = pair_counts c.args.uses.now; scratch = c.args.scratch.now; passes = passing k c.in-Passed.is; whole = has-state (length c.args.scratch.now) room }, room)
 
+pub end_in_pairs-requires : goal.end_in_pairs-requires
+end_in_pairs-requires c = omega (arith, wide (goal.at.end_in_pairs-requires c).After-all c.in-Passed.is, c.read_in-answer.auto.scratch)
+
 pub returns-in-Refused : goal.returns-in-Refused
 returns-in-Refused c =
     pairs-refused c.args.n c.args.l c.args.list.now (lent (goal.at.returns-in-Refused c).After-all) (low (goal.at.returns-in-Refused c).After-all) c.in-Refused.answer (sym (ap check_of c.in-Refused.is) ∙ said (goal.at.returns-in-Refused c).After-all)
@@ -57,9 +60,9 @@ unfolding row_count
 returns-in-Passed c =
     let k = (goal.at.returns-in-Passed c).After-all in
     let R = c.read_in-answer in
-    let E = c.in_pairs in
+    let E = c.end_in_pairs in
     let state : List ℕ = R.new.scratch in
     pairs_end c.args.n c.args.l c.args.list.now (lent k) (low k) (passing k c.in-Passed.is)
     R.result R.new.page R.new.roles state E.new.uses E.new.scratch R.ensures.reads
     (E.ensures.uses ∙ ap (λ (m : ℕ). pairs_after (places_part m state) (uses_part (answer_numbers R.result).rank state) c.args.uses.now) c.count.ensures)
-    (cleared_since c.args.scratch.now state E.new.scratch (omega (arith, wide k c.in-Passed.is, R.auto.scratch)) R.ensures.behind E.ensures.scratch)
+    (E.ensures.scratch ∙ R.ensures.behind)
