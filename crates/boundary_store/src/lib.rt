@@ -1,6 +1,7 @@
 // What a phone app calls with a store: three functions over the C boundary, for any bytes at all. The result is document 02's answer number, the other
 // numbers come back through references, and a refusal gives those that have no meaning as 0.
 #![tactic(auto)]
+
 ghost use Rattle.std.specs.Prelude.{◌≡◌};
 ghost use Rattle.opening.specs.Opening as opening;
 ghost use Rattle.offering.specs.Offering.{offer_answer, offered_store};
