@@ -41,4 +41,4 @@ module _ (number n l : ℕ) where
   unfolding offered
   refused-offered frame e s =
       let refused = refused-laid frame e s.rows s.list in
-      rw (refused, same_list (laid frame number n l s.rows s.list) (list_row_bytes l * s.rows) (frame_entry frame) s.list refused)
+      rw (refused, same_list)
