@@ -19,7 +19,6 @@ use Rattle.gate.specs.Gate.{gate}
 use Rattle.reader.specs.Reader.{buffers, outcome_of}
 use Rattle.reader.specs.Pairs.{pair_counts, counted, paired, in_pairs}
 use Rattle.apart.specs.Apart.{apart}
-use Rattle.both.specs.Both as spec
 use Rattle.both.specs.Both.{Second, Pair, alone, followed}
 use Rattle.both.specs.Pairs.{counted_too, paired_too, both_in_pairs}
 use Rattle.second_room.specs.Fits.{fits_too}

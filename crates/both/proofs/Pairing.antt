@@ -5,11 +5,9 @@ use Prim.Native.Nat.{ℕ, ◌*◌, ◌/◌, ◌≤◌}
 use native.Mathlib.Nat.{mul-div_cancel}
 use native.Mathlib.Omega.{arith}
 use mathlib.Core.Bool.{Bool, true, false, cond, not, ◌&&◌, true≢false}
-use mathlib.Core.List.{List, [], ◌∷◌}
+use mathlib.Core.List.{List}
 use lib.Dec.{leb}
 use lib.ListN.{length, take}
-use types.Run.{OneOf, miss}
-use denote.Enum.Declared.{tag_of}
 use borrow.Author.Tests.{leb-true}
 use Rattle.space.proofs.Both.{both}
 use Rattle.octets.specs.Octets.{numbers, flat, over}
@@ -25,7 +23,6 @@ use Rattle.reading.proofs.Checks.{Passed, passed, roomy-fits}
 use Rattle.reading.proofs.Writes.{EarlyCheck, checks_early}
 use Rattle.reading.proofs.Given.{outcome-read, given-passes, given-read}
 use Rattle.reading.proofs.Page.{length-page_of, page_of_below}
-use Rattle.reading.specs.contracts.Answer.{the_type}
 use Rattle.gate.specs.declared.Gate.TheVariants as gates
 use Rattle.gate.specs.Gate.{gate}
 use Rattle.reader.specs.Reader.{outcome_of}
@@ -123,9 +120,9 @@ module _ (n l : ℕ) (list : List ℕ) (lent : Lent) (s : Second) where
 
 -- ---- the answers that code takes for no page
 
-pub no_page : (a : Answer) → OneOf (1 ∷ 2 ∷ 3 ∷ 4 ∷ 5 ∷ 6 ∷ 7 ∷ []) (tag_of the_type a) → (lent : Lent) → gave (outcome_of a lent) ≡ false
+pub no_page : (a : Answer) → ((r g : ℕ) → a ≡ answer.Page r g → ⊥) → (lent : Lent) → gave (outcome_of a lent) ≡ false
 unfolding gave answer_numbers
-no_page (answer.Page r g) k lent = absurd (miss (1 ∷ 2 ∷ 3 ∷ 4 ∷ 5 ∷ 6 ∷ 7 ∷ []) 0 tt k)
+no_page (answer.Page r g) k lent = absurd (k r g refl)
 no_page answer.Shape k lent = refl
 no_page answer.List k lent = refl
 no_page answer.Room k lent = refl

@@ -1,6 +1,7 @@
 // Reads both versions of a page that was saved twice: the plain reading of a list, and one of the rows that do not agree with its page.
 // Document 02, wish 1.
 #![tactic(auto)]
+
 ghost use Rattle.std.specs.Prelude.{◌≡◌};
 ghost use Rattle.rows.specs.Rows.{entries_of};
 ghost use Rattle.rows.specs.Bytes.{cut};
