@@ -36,7 +36,7 @@ use Rattle.crossing.specs.Held.{Held}
 use Rattle.crossing.specs.Held as crossing
 use Rattle.store.specs.declared.Head.{Head}
 use Rattle.store.specs.declared.Header.TheVariants as header
-use Rattle.store.specs.Store.{store_bytes, list_at, list_room, taken_in, rank_in, list_in, working_in, with_list, with_working}
+use Rattle.store.specs.Store.{store_bytes, list_room, taken_in, rank_in, list_in, working_in, with_list, with_working}
 use Rattle.store.specs.Header.{head_in, header_of}
 use Rattle.noticing.specs.Noticing.{seed_in, is_repeat, noticed}
 use Rattle.newest.specs.Newest.{counted_in, admission, admitted, taken_by, newest_taken}
@@ -45,7 +45,6 @@ use Rattle.offering.specs.Offering.{number_of, laid_in, laid_store, answer_by, o
 use Rattle.current.specs.Current.{first_entries}
 use Rattle.current.proofs.Next.{current_repeat, current-taken, next-entries}
 use Rattle.whole.specs.Whole.{Whole}
-use Rattle.store.proofs.Sizes.{sizes}
 use Rattle.store.proofs.Parts.{is_store_lem}
 use Rattle.store.proofs.Checked.{header_good}
 use Rattle.store.proofs.Back.{length-list, list-long, list-list, list-working, working-long, working-working, working-list}
