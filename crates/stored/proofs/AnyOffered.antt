@@ -1,7 +1,7 @@
 -- Opening and offering on any bytes: which numbers they give, and that nothing behind the first 65,536 bytes changes. By the header, and by the lengths of
 -- what each step writes.
 -- Assumes nothing.
-use mathlib.Core.Path.{◌≡◌, refl, ap, ◌∙◌}
+use mathlib.Core.Path.{◌≡◌, refl, ◌∙◌}
 use Prim.Native.Nat.{ℕ, ◌+◌, ◌*◌, ◌≤◌}
 use native.Mathlib.Nat.{mul-le-mul_left}
 use native.Mathlib.Omega.{arith}
