@@ -1,5 +1,6 @@
 // The numbers of both readings of a page, as the boundary gives them.
 #![tactic(auto)]
+
 ghost use Rattle.std.specs.Prelude.{◌≡◌};
 ghost use Rattle.both_numbers.specs.Numbers.{both_numbers};
 

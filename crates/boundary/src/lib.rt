@@ -1,6 +1,7 @@
 // What a phone app calls to read a list: two functions over the C boundary, for any bytes at all. The result is document 01's answer number, the other
 // numbers come back through references, and a refusal gives those that have no meaning as 0.
 #![tactic(auto)]
+
 ghost use Rattle.std.specs.Prelude.{◌≡◌};
 ghost use Rattle.reader.specs.Reader.{buffers};
 ghost use Rattle.both.specs.Parts.{second};
