@@ -257,9 +257,7 @@ impl Case for ScanCase {
             same("rows laid and held", counts, (model.rows.len(), model.held))?;
             if i % stride == 0 {
                 compare_reading(&mut scan, &model)?;
-                scan = resumed(&scan, &model)?;
-                // How often frames were held is not in the store.
-                model.held = 0;
+                resumed(&scan, &model)?;
             }
         }
         compare_reading(&mut scan, &model)
