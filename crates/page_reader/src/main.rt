@@ -2,7 +2,7 @@
 // lines::take decides what a line gives, and reader::read_list what the rows give. Here the input is split and the answers are printed.
 #![tactic(auto)]
 
-ghost use Rattle.std.specs.Prelude.{◌+◌, ◌*◌, ◌≤◌, length, IfOk};
+ghost use Rattle.std.specs.Prelude.{◌≡◌, ◌+◌, ◌*◌, ◌≤◌, length, IfOk, OnErr};
 ghost use Rattle.lines.specs.Readable.{Readable};
 ghost use Rattle.page_reader.specs.Scanning.{Ready};
 
@@ -34,7 +34,8 @@ struct Scan {
 // Takes the line that is kept, and prints its result.
 fn end_line(rt: &impl Print, scan: Scan, line: &[u8], list: &mut [u8]) -> io::Result<Scan>
     requires { Ready scan (length line.now) }
-    ensures { IfOk result (λ next. Ready next (length line.now)) }
+    ensures ready { IfOk result (λ next. Ready next (length line.now)) }
+    ensures failed { OnErr result (length list.new ≡ length list.old) }
 {
     let kept = scan.kept;
     let taken = lines::take(&line[..kept], scan.sheet, list);
@@ -59,7 +60,8 @@ fn take_byte(
     list: &mut [u8],
 ) -> io::Result<Scan>
     requires { Ready scan (length line.old) }
-    ensures { IfOk result (λ next. Ready next (length line.old)) }
+    ensures ready { IfOk result (λ next. Ready next (length line.old)) }
+    ensures failed { OnErr result ((length line.new ≡ length line.old) × (length list.new ≡ length list.old)) }
 {
     if byte == b'\n' {
         return end_line(rt, scan, line, list);
@@ -82,7 +84,8 @@ fn take_chunk(
     list: &mut [u8],
 ) -> io::Result<Scan>
     requires { Ready scan (length line.old) }
-    ensures { IfOk result (λ next. Ready next (length line.old)) }
+    ensures ready { IfOk result (λ next. Ready next (length line.old)) }
+    ensures failed { OnErr result ((length line.new ≡ length line.old) × (length list.new ≡ length list.old)) }
 {
     let mut next = scan;
     let mut i = 0;
@@ -102,7 +105,8 @@ fn turn(
     list: &mut [u8],
 ) -> io::Result<Scan>
     requires { Ready scan (length line.old) }
-    ensures { IfOk result (λ next. Ready next (length line.old)) }
+    ensures ready { IfOk result (λ next. Ready next (length line.old)) }
+    ensures failed { OnErr result ((length line.new ≡ length line.old) × (length list.new ≡ length list.old)) }
 {
     let mut chunk = [0u8; CHUNK];
     let n = input.read(&mut chunk)?;
@@ -123,7 +127,8 @@ fn read_all(
     list: &mut [u8],
 ) -> io::Result<Scan>
     requires { Ready scan (length line.old) }
-    ensures { IfOk result (λ next. Ready next (length line.old)) }
+    ensures ready { IfOk result (λ next. Ready next (length line.old)) }
+    ensures failed { OnErr result ((length line.new ≡ length line.old) × (length list.new ≡ length list.old)) }
 {
     let mut next = scan;
     let mut turns = u64::MAX;
@@ -137,7 +142,8 @@ fn read_all(
 // "the last line may lack its newline, and nothing after a last newline is no line."
 fn end_input(rt: &impl Print, scan: Scan, line: &[u8], list: &mut [u8]) -> io::Result<Sheet>
     requires { Ready scan (length line.now) }
-    ensures { IfOk result Readable }
+    ensures ready { IfOk result Readable }
+    ensures failed { OnErr result (length list.new ≡ length list.old) }
 {
     let kept = scan.kept;
     if kept == 0 {

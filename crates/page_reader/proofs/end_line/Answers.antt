@@ -4,6 +4,6 @@ use Rattle.std.proofs.Common.{arith}
 use Rattle.lines.proofs.Readable.{take-readable}
 use Rattle.page_reader.proofs.end_line.Goals as goal
 
-pub returns : goal.returns
-returns g c =
+pub returns-clause-ready : goal.returns-clause-ready
+returns-clause-ready g c =
     record { in_room = omega arith; readable = rw c.take-taken.ensures.taken (take-readable _ c.args.scan.sheet c.args.list.now c.requires.readable) }

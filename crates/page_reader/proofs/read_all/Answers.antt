@@ -10,4 +10,4 @@ pub turn-requires : goal.turn-requires
 turn-requires g c = going_ready c.loop-turns.invariant
 
 pub loop-turns-preserved : goal.loop-turns-preserved
-loop-turns-preserved g c = going_on c.loop-turns.invariant c.turn.auto.line c.turn.auto.list c.in_ok-next.ensures
+loop-turns-preserved g c = going_on c.loop-turns.invariant c.turn.auto.line c.turn.auto.list c.in_ok-next.ensures.ready

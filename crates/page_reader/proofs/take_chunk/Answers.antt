@@ -10,7 +10,7 @@ pub take_byte-requires : goal.take_byte-requires
 take_byte-requires g c = going_ready c.loop-i.invariant
 
 pub loop-i-preserved : goal.loop-i-preserved
-loop-i-preserved g c = going_on c.loop-i.invariant c.take_byte.auto.line c.take_byte.auto.list c.in_ok-next.ensures
+loop-i-preserved g c = going_on c.loop-i.invariant c.take_byte.auto.line c.take_byte.auto.list c.in_ok-next.ensures.ready
 
-pub returns : goal.returns
-returns g c = c.loop-i.invariant.ready
+pub returns-clause-ready : goal.returns-clause-ready
+returns-clause-ready g c = c.loop-i.invariant.ready
