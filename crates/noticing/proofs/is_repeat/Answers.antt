@@ -16,7 +16,7 @@ use Rattle.noticing.proofs.is_repeat.Goals.{After-note}
 pub returns-then-store-lt-BYTES : goal.returns-then-store-lt-BYTES
 unfolding store_bytes
 returns-then-store-lt-BYTES c =
-    let A = c.args in record { answer = (too_short A.l A.arrival.0 A.store.now c.if-store-lt-BYTES.true).0; store = (too_short A.l A.arrival.0 A.store.now c.if-store-lt-BYTES.true).1 }
+    let A = c.args in let both = too_short A.l A.arrival.0 A.store.now c.if-store-lt-BYTES.true in record { answer = both.0; store = both.1 }
 
 pub note-requires : goal.note-requires
 unfolding store_bytes

@@ -11,11 +11,11 @@ lay-laid-requires c =
 
 pub returns-in-Short : goal.returns-in-Short
 returns-in-Short c =
-    let A = c.args in record { answer = (offer_short A.frame.now A.store.now (sym c.check.ensures ∙ c.in-Short.is)).0; store = (offer_short A.frame.now A.store.now (sym c.check.ensures ∙ c.in-Short.is)).1 }
+    let A = c.args in let both = offer_short A.frame.now A.store.now (sym c.check.ensures ∙ c.in-Short.is) in record { answer = both.0; store = both.1 }
 
 pub returns-in-OutOfRange : goal.returns-in-OutOfRange
 returns-in-OutOfRange c =
-    let A = c.args in record { answer = (offer_range A.frame.now A.store.now (sym c.check.ensures ∙ c.in-OutOfRange.is)).0; store = (offer_range A.frame.now A.store.now (sym c.check.ensures ∙ c.in-OutOfRange.is)).1 }
+    let A = c.args in let both = offer_range A.frame.now A.store.now (sym c.check.ensures ∙ c.in-OutOfRange.is) in record { answer = both.0; store = both.1 }
 
 pub returns-in-Row : goal.returns-in-Row
 returns-in-Row c =

@@ -11,13 +11,13 @@ use Rattle.opening.proofs.open.Goals as goal
 pub returns-then-not-shaped : goal.returns-then-not-shaped
 returns-then-not-shaped c =
     let A = c.args in
-    record { answer = (open_shape A.page A.n A.l A.store.now (sym c.shaped.ensures ∙ c.if-not-shaped.true)).0; store = (open_shape A.page A.n A.l A.store.now (sym c.shaped.ensures ∙ c.if-not-shaped.true)).1 }
+    let both = open_shape A.page A.n A.l A.store.now (sym c.shaped.ensures ∙ c.if-not-shaped.true) in record { answer = both.0; store = both.1 }
 
 pub returns-then-store-lt-BYTES : goal.returns-then-store-lt-BYTES
 unfolding store_bytes
 returns-then-store-lt-BYTES c =
     let A = c.args in
-    record { answer = (open_room A.page A.n A.l A.store.now (sym c.shaped.ensures ∙ c.if-not-shaped.false) c.if-store-lt-BYTES.true).0; store = (open_room A.page A.n A.l A.store.now (sym c.shaped.ensures ∙ c.if-not-shaped.false) c.if-store-lt-BYTES.true).1 }
+    let both = open_room A.page A.n A.l A.store.now (sym c.shaped.ensures ∙ c.if-not-shaped.false) c.if-store-lt-BYTES.true in record { answer = both.0; store = both.1 }
 
 pub clear_store-requires : goal.clear_store-requires
 unfolding store_bytes

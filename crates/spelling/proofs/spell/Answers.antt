@@ -7,7 +7,7 @@ use Rattle.spelling.proofs.spell.Goals as goal
 pub returns-then-text-bytes : goal.returns-then-text-bytes
 returns-then-text-bytes c =
     let args = c.args in
-    record { answer = (spell_room args.bytes.now args.text.now c.if-text-bytes.true).0; text = (spell_room args.bytes.now args.text.now c.if-text-bytes.true).1 }
+    let both = spell_room args.bytes.now args.text.now c.if-text-bytes.true in record { answer = both.0; text = both.1 }
 
 pub returns : goal.returns
 returns c =

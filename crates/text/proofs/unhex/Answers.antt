@@ -7,12 +7,12 @@ use Rattle.text.proofs.unhex.Goals as goal
 pub returns-then-bad : goal.returns-then-bad
 returns-then-bad c =
     let args = c.args in
-    record { answer = (unhex_bad args.line.now args.frame.now (sym c.bad.ensures ∙ c.if-bad.true)).0; frame = (unhex_bad args.line.now args.frame.now (sym c.bad.ensures ∙ c.if-bad.true)).1 }
+    let both = unhex_bad args.line.now args.frame.now (sym c.bad.ensures ∙ c.if-bad.true) in record { answer = both.0; frame = both.1 }
 
 pub returns-then-frame-half : goal.returns-then-frame-half
 returns-then-frame-half c =
     let args = c.args in
-    record { answer = (unhex_room args.line.now args.frame.now (sym c.bad.ensures ∙ c.if-bad.false) c.if-frame-half.true).0; frame = (unhex_room args.line.now args.frame.now (sym c.bad.ensures ∙ c.if-bad.false) c.if-frame-half.true).1 }
+    let both = unhex_room args.line.now args.frame.now (sym c.bad.ensures ∙ c.if-bad.false) c.if-frame-half.true in record { answer = both.0; frame = both.1 }
 
 pub write_pairs-requires : goal.write_pairs-requires
 write_pairs-requires c =
