@@ -13,6 +13,7 @@ import os
 import re
 import subprocess
 import sys
+import tempfile
 
 TOP = os.getcwd()
 FIELD = r"[A-Za-z0-9_'₀-₉-]+"
@@ -286,8 +287,8 @@ def convert(crate, path, lts):
         if fn.used:
             goals.append(f"use {module}.Goals.{{{', '.join(sorted(fn.used))}}}")
         write(folder + "/Answers.antt", comment, uses + goals, kept)
-    os.makedirs("/tmp/proofs-of-old/" + crate, exist_ok=True)
-    os.replace(folder + "/Proof.antt", "/tmp/proofs-of-old/" + crate + "/" + ".".join(path) + ".antt")
+    # The old text stays in git.
+    os.remove(folder + "/Proof.antt")
     for s in sorted(set(said)):
         print(f"{'::'.join(path)}: {s}")
 
@@ -466,17 +467,19 @@ def helper(fn, block, aliases, said):
     return block
 
 
+def names_of(crate):
+    """What each goal and each step of the crate's functions was called, and is called."""
+    with tempfile.TemporaryDirectory() as out:
+        said = subprocess.run(["rt", "check", "--generated", out, "--old-names"], cwd=f"{TOP}/crates/{crate}", capture_output=True, text=True)
+        if not os.path.exists(out + "/names.json"):
+            print(said.stdout[-3000:], said.stderr[-2000:])
+            raise SystemExit(1)
+        return json.load(open(out + "/names.json", encoding="utf-8"))
+
+
 def main():
     crate, only = sys.argv[1], sys.argv[2:]
-    out = f"/tmp/names-of/{crate}"
-    os.makedirs(out, exist_ok=True)
-    said = subprocess.run(["rt", "check", "--generated", out, "--old-names"], cwd=f"{TOP}/crates/{crate}", capture_output=True, text=True)
-    file = f"{out}/names.json"
-    if not os.path.exists(file):
-        print(said.stdout[-3000:], said.stderr[-2000:])
-        raise SystemExit(1)
-    names = json.load(open(file, encoding="utf-8"))
-    for key, lts in names.items():
+    for key, lts in names_of(crate).items():
         m = re.match(r"Rattle-\w+-proofs\.(.*)\.Lts$", key)
         if not m:
             continue

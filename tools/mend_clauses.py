@@ -1,20 +1,33 @@
 #!/usr/bin/env python3
-# mend.py CRATE-FOLDER CHECKLOG: writes the clauses that the check asks for; says whether it changed anything
-import re,sys
-folder,log=sys.argv[1:3]
-t=open(log).read()
-n=0
-for m in re.finditer(r"^(\./\S+?):(\d+):\d+: error: `([^`]+)`: write the clauses? `([^`]+)`(?:(?:,| and) `([^`]+)`)*",t,re.M):
-    f=folder+'/'+m.group(1)
-    name=m.group(3)
-    clauses=re.findall(r"`([^`]+)`", m.group(0).split('write the clause',1)[1])
-    lines=open(f).read().split('\n')
-    # the first clause of the declaration
-    for i,l in enumerate(lines):
-        mm=re.match(r"(\s*)"+re.escape(name)+r" (?!:)",l)
-        if mm:
-            lines[i:i]=[mm.group(1)+c for c in clauses]
-            open(f,'w').write('\n'.join(lines)); n+=1
-            print('mended',f,name,clauses)
-            break
-sys.exit(0 if n else 1)
+"""Writes into a crate's lemmas by clauses the impossible cases that the check asks for: "write the clause `f [] x = elim x [ ]`".
+
+usage: rt check >LOG; python3 tools/mend_clauses.py FOLDER LOG      FOLDER is the crate's; the status is 0 if anything was written
+"""
+
+import re
+import sys
+
+ASKED = re.compile(r"^(\./\S+?):\d+:\d+: error: `([^`]+)`: write the clauses? (`[^`]+`(?:(?:,| and) `[^`]+`)*)", re.M)
+
+
+def mend(file, name, clauses):
+    """Puts the clauses before the first one of the declaration."""
+    lines = open(file, encoding="utf-8").read().split("\n")
+    for i, line in enumerate(lines):
+        first = re.match(r"(\s*)" + re.escape(name) + r" (?!:)", line)
+        if first:
+            lines[i:i] = [first.group(1) + clause for clause in clauses]
+            open(file, "w", encoding="utf-8").write("\n".join(lines))
+            print(f"{file}: {name}")
+            return True
+    return False
+
+
+def main():
+    folder, log = sys.argv[1:]
+    asked = ASKED.findall(open(log, encoding="utf-8").read())
+    mended = [mend(f"{folder}/{file}", name, re.findall(r"`([^`]+)`", clauses)) for file, name, clauses in asked]
+    sys.exit(0 if any(mended) else 1)
+
+
+main()
