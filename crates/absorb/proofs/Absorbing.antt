@@ -2,11 +2,11 @@
 -- Assumes nothing.
 use mathlib.Core.Path.{◌≡◌}
 use mathlib.Core.List.{List}
-use mathlib.Core.Bool.{true, false, ◌&&◌}
+use mathlib.Core.Bool.{true, ◌&&◌}
 use Prim.Native.Nat.{ℕ, ◌*◌, ◌≤◌, ◌<◌}
 use lib.Dec.{leb, ltb}
 use lib.ListN.{length}
-use borrow.Author.Tests.{le-leb, lt-leb, leb-true, lt-ltb, le-ltb, ltb-true}
+use borrow.Author.Tests.{le-leb, leb-true, lt-ltb, le-ltb, ltb-true}
 use Rattle.absorb.specs.declared.Absorbed.TheVariants.{Kept, Other, Misfit}
 use Rattle.octets.specs.Octets.{bytes}
 use Rattle.basis.specs.Algorithm2.{Pass}
@@ -46,28 +46,6 @@ unfolding takes
 takes_when key m r room T =
     rw (le-leb 9 key T.low) (rw (le-leb key 40 T.high) (rw (lt-ltb m 512 T.arrival) (rw (le-leb r most_kept T.rank) (le-leb state_bytes room T.whole))))
 
--- the tests of the code, in its order
-module _ (key m r room : ℕ) where
-  pub too_short : key < 9 → false ≡ takes key m r room
-  unfolding takes
-  too_short h = rw (lt-leb 9 key h)
-
-  pub too_wide : 9 ≤ key → 40 < key → false ≡ takes key m r room
-  unfolding takes
-  too_wide a h = rw (le-leb 9 key a) (rw (lt-leb key 40 h))
-
-  pub too_late : 9 ≤ key → key ≤ 40 → 512 ≤ m → false ≡ takes key m r room
-  unfolding takes
-  too_late a b h = rw (le-leb 9 key a) (rw (le-leb key 40 b) (rw (le-ltb m 512 h)))
-
-  pub too_many : 9 ≤ key → key ≤ 40 → m < 512 → most_kept < r → false ≡ takes key m r room
-  unfolding takes
-  too_many a b d h = rw (le-leb 9 key a) (rw (le-leb key 40 b) (rw (lt-ltb m 512 d) (rw (lt-leb r most_kept h))))
-
-  pub takes-room : 9 ≤ key → key ≤ 40 → m < 512 → r ≤ most_kept → leb state_bytes room ≡ takes key m r room
-  unfolding takes
-  takes-room a b d h = rw (le-leb 9 key a) (rw (le-leb key 40 b) (rw (lt-ltb m 512 d) (rw (le-leb r most_kept h))))
-
 -- ---- the outcome
 
 module _ (key : ℕ) (p : Pass) (m r : ℕ) (state : List ℕ) where
@@ -87,7 +65,3 @@ module _ (key row m r : ℕ) (state : List ℕ) where
   pub absorbed_so : takes key m r (length state) ≡ true → taken key (pass_in key row state) m r state ≡ absorption key row m r state
   unfolding absorption
   absorbed_so e = rw e
-
-  pub absorbed_not : takes key m r (length state) ≡ false → absorbed_as Misfit state ≡ absorption key row m r state
-  unfolding absorption
-  absorbed_not e = rw e

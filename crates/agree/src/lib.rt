@@ -5,10 +5,12 @@ ghost use Rattle.std.specs.Prelude.{◌≡◌, ◌/◌, ◌%◌, ◌^◌, ◌≤
 ghost use Rattle.octets.specs.Octets.{number};
 ghost use Rattle.rows.specs.Rows.{named};
 ghost use Rattle.rows.specs.Bytes.{cut, bytes_agree};
-ghost use Rattle.agree.specs.Quads.{quad_of, quad_plus, quad_none};
+ghost use Rattle.agree.specs.Quads.{quad_of, quad_plus};
+
+use std::ops::BitXor;
 
 // Four words that cover 8 to 32 bytes, so that a sum of symbols stays in registers. Where there are fewer than 32, the words overlap.
-#[derive(Clone, Copy)]
+#[derive(Clone, Copy, PartialEq)]
 struct Quad {
     a: u64,
     b: u64,
@@ -24,15 +26,20 @@ impl Quad {
         let last = from.len() - 8;
         Quad {
             a: littles::little(from, 0),
-            b: littles::little(from, octets::least(8, last)),
-            c: littles::little(from, octets::least(16, last)),
-            d: littles::little(from, octets::least(24, last)),
+            b: littles::little(from, last.min(8)),
+            c: littles::little(from, last.min(16)),
+            d: littles::little(from, last.min(24)),
         }
     }
+}
 
-    fn plus(self, other: Quad) -> Self
-        ensures { result ≡ quad_plus self other }
-    {
+// Two added bit by bit.
+impl BitXor for Quad {
+    type Output = Quad;
+
+    ghost bitxor_gives = { λ p q sum. sum ≡ quad_plus p q };
+
+    fn bitxor(self, other: Quad) -> Quad {
         Quad {
             a: self.a ^ other.a,
             b: self.b ^ other.b,
@@ -40,51 +47,41 @@ impl Quad {
             d: self.d ^ other.d,
         }
     }
-
-    fn none(self) -> bool
-        ensures { result ≡ quad_none self }
-    {
-        if self.a != 0 {
-            return false;
-        }
-        if self.b != 0 {
-            return false;
-        }
-        if self.c != 0 {
-            return false;
-        }
-        self.d == 0
-    }
 }
 
 // Whether a payload of 8 to 32 bytes is the sum of the symbols of page that a bit of names stands for: added to it, they leave nothing.
 fn is_long_sum(page: &[u8], payload: &[u8], names: u64) -> bool
-    requires { (8 ≤ length payload.now) × (length payload.now ≤ 32) × (names < 2 ^ (length page.now / length payload.now)) }
+    requires least { 8 ≤ length payload.now }
+    requires most { length payload.now ≤ 32 }
+    requires inside { names < 2 ^ (length page.now / length payload.now) }
     ensures { result ≡ eqb (number payload.now) (named (cut (length payload.now) page.now) names) }
 {
     let l = payload.len();
     let mut left = Quad::of(payload);
-    let mut rest = names;
-    while 0 < rest {
-        let start = bits::bottom(rest) * l;
-        let end = start + l;
-        left = left.plus(Quad::of(&page[start..end]));
-        rest = bits::without_bottom(rest);
+    for bit in bits::set_bits(names) {
+        let start = bit * l;
+        left = left ^ Quad::of(&page[start..start + l]);
     }
-    left.none()
+    left == Quad {
+        a: 0,
+        b: 0,
+        c: 0,
+        d: 0,
+    }
 }
 
 // The same for 1 to 7 bytes. They are the highest of a word; those behind them belong to the symbols that follow, and the shift cuts them off.
+// A trait over quads and words would take three methods and two laws to join these six lines with those six.
 fn is_short_sum(page: &[u8], payload: &[u8], names: u64) -> bool
-    requires { (0 < length payload.now) × (length payload.now < 8) × (names < 2 ^ (length page.now / length payload.now)) }
+    requires some { 0 < length payload.now }
+    requires few { length payload.now < 8 }
+    requires inside { names < 2 ^ (length page.now / length payload.now) }
     ensures { result ≡ eqb (number payload.now) (named (cut (length payload.now) page.now) names) }
 {
     let l = payload.len();
     let mut left = words::word(payload, 0);
-    let mut rest = names;
-    while 0 < rest {
-        left = left ^ words::word(page, bits::bottom(rest) * l);
-        rest = bits::without_bottom(rest);
+    for bit in bits::set_bits(names) {
+        left ^= words::word(page, bit * l);
     }
     left >> (8 * (8 - l)) == 0
 }
@@ -92,7 +89,8 @@ fn is_short_sum(page: &[u8], payload: &[u8], names: u64) -> bool
 // The bits of names that stand for symbols of l bytes of a page of so many. To divide takes longer than a short sum, so it is done only where
 // a bit stands for no symbol.
 fn of_page(names: u64, l: usize, page: usize) -> u64
-    requires { (0 < l) × (l ≤ 32) }
+    requires some { 0 < l }
+    requires most { l ≤ 32 }
     ensures { result ≡ names % 2 ^ (page / l) }
 {
     if (bits::top(names) + 1) * l <= page {
@@ -106,10 +104,7 @@ pub fn agrees(page: &[u8], row: &[u8]) -> bool
     ensures { result ≡ bytes_agree page.now row.now }
 {
     let size = row.len();
-    if size < 9 {
-        return false;
-    }
-    if 40 < size {
+    if size < 9 || 40 < size {
         return false;
     }
     let names = of_page(words::word(row, 0), size - 8, page.len());

@@ -10,10 +10,10 @@ use places::Arrival;
 pub fn agreement(l: u8, list: &[u8], order: &[u8], page: &[u8]) -> usize
     ensures { result ≡ agreement_of l list.now order.now page.now }
 {
-    let mut agreeing = 0;
-    for i in 0..order.len() / 2 {
-        let arrival = Arrival(doubles::pair(order, i) as usize);
-        agreeing += agree::agrees(page, lists::row(list, l, arrival)) as usize;
-    }
-    agreeing
+    (0..order.len() / 2)
+        .filter(|&i| {
+            let arrival = Arrival(doubles::pair(order, i) as usize);
+            agree::agrees(page, lists::row(list, l, arrival))
+        })
+        .count()
 }

@@ -1,4 +1,5 @@
-// Document 01's numbers of what a reading answers.
+// Document 01's numbers of what a reading answers. A From would have to stand in `reading`, which has definitions and laws alone: code there would be proved again
+// with each edit of a definition.
 #![tactic(auto)]
 
 ghost use Rattle.std.specs.Prelude.{◌≡◌};
@@ -29,6 +30,7 @@ fn ended(number: u8, rank: usize, agreement: usize) -> Numbers
 }
 
 // Number, rank, place and agreement.
+#[tactic(auto, unfolding(reading::specs::Answer::answer_numbers))]
 pub fn numbers_of(answer: Answer) -> Numbers
     ensures { result ≡ answer_numbers answer }
 {

@@ -7,24 +7,17 @@ ghost use Rattle.apart.specs.Apart.{gathers, appended, gatherable, gathered_from
 use places::Arrival;
 
 // Whether entries can be gathered by their lengths: L in range, at most 512 entries, and a room as long as the list.
+#[tactic(auto, unfolding(crate::specs::Apart::gatherable, places::specs::Places::most_rows))]
 fn can_gather(l: u8, list: usize, into: usize) -> bool
     ensures { result ≡ gatherable l list into }
 {
-    if l < 1 {
-        return false;
-    }
-    if 32 < l {
-        return false;
-    }
-    if places::MOST_ROWS < lists::count(list, l) {
-        return false;
-    }
-    list <= into
+    1 <= l && l <= 32 && lists::count(list, l) <= places::MOST_ROWS && list <= into
 }
 
 // The entry of a row that does not agree with the page goes behind the first k entries; how many there are then.
 fn append(list: &mut [u8], k: usize, page: &[u8], row: &[u8], entry: &[u8]) -> usize
-    requires { (k * length entry.now + length entry.now ≤ length list.old) × (k < length list.old) }
+    requires room { k * length entry.now + length entry.now ≤ length list.old }
+    requires few { k < length list.old }
     ensures { gathers result list.new ≡ appended page.now row.now entry.now k list.old }
 {
     if agree::agrees(page, row) {

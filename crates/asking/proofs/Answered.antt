@@ -1,28 +1,22 @@
 -- What asking leaves, by its steps: the tail ends from the store's working, the uses are written from the state that it leaves, and the scratch is cleared.
 -- Assumes nothing.
 use mathlib.Core.Path.{◌≡◌, sym, ap, ap₂, ◌∙◌}
-use mathlib.Core.Bool.{Bool, true, false}
 use mathlib.Core.List.{List}
-use Prim.Native.Nat.{ℕ, ◌*◌, ◌/◌, ◌≤◌}
+use Prim.Native.Nat.{ℕ, ◌≤◌}
 use native.Mathlib.Omega.{arith}
 use lib.ListN.{length, take, drop, take-append-drop}
 use lib.Seq.{length-take-le}
 use Rattle.octets.specs.Octets.{over}
 use Rattle.reading.specs.declared.Answer.{Answer}
-use Rattle.reading.specs.declared.Answer.TheVariants as answer
 use Rattle.reading.specs.Answer.{answer_numbers}
-use Rattle.reading.specs.Outcome.{Outcome, room_for, zeros, scratch_bytes}
+use Rattle.reading.specs.Outcome.{zeros}
 use Rattle.state.specs.Layout.{state_bytes, uses_part, places_part}
 use Rattle.views.proofs.Longer.{uses-longer, places-longer}
 use Rattle.marks.specs.Mark.{pairs_after}
 use Rattle.tail.specs.Tail.{Ending, ends, roles_in, finished}
 use Rattle.store.specs.declared.Head.{Head}
-use Rattle.store.specs.declared.Header.TheVariants as header
 use Rattle.store.specs.Store.{working_in}
-use Rattle.store.specs.Header.{header_of}
-use Rattle.asking.specs.declared.Asked.TheVariants as said
-use Rattle.asking.specs.Asking.{asking, answering, list_of, ended, answered, asked_by, asked}
-use Rattle.asking.proofs.Sizes.{room-scratch}
+use Rattle.asking.specs.Asking.{answering, list_of, ended}
 
 -- the parts that are told are those of the state in front
 module _ (scratch : List ℕ) (whole : state_bytes ≤ length scratch) where
@@ -51,32 +45,3 @@ ended_so h store page₀ uses₀ roles₀ scratch₀ list working l w a left pag
     told : pairs_after (places_part h.rows left) (uses_part (answer_numbers a).rank left) uses₀
         ≡ pairs_after (places_part h.rows (take state_bytes left)) (uses_part (answer_numbers a).rank (take state_bytes left)) uses₀
     told = ap₂ (λ (places counts : List ℕ). pairs_after places counts uses₀) (front-places left whole h.rows) (front-uses left whole (answer_numbers a).rank)
-
--- ---- by the header and the room
-
-module _ (store page₀ uses₀ roles₀ scratch₀ : List ℕ) where
-  pub asked_short : header.Short ≡ header_of store → asking said.Short page₀ uses₀ roles₀ scratch₀ ≡ asked store page₀ uses₀ roles₀ scratch₀
-  unfolding asked asked_by
-  asked_short e = rw (← e)
-
-  pub asked_out : header.OutOfRange ≡ header_of store → asking said.Header page₀ uses₀ roles₀ scratch₀ ≡ asked store page₀ uses₀ roles₀ scratch₀
-  unfolding asked asked_by
-  asked_out e = rw (← e)
-
-  module _ (h : Head) (good : header.Good h ≡ header_of store) where
-    abbrev fits : Bool
-    fits = room_for (h.n * h.l) h.rows (length page₀) (length uses₀ / 2) (length roles₀) (length scratch₀)
-
-    module _ (fit : Bool) (is : fit ≡ fits) where
-      pub asked-room : fit ≡ false → asking (said.Rows answer.Room h.rows) page₀ uses₀ roles₀ scratch₀ ≡ asked store page₀ uses₀ roles₀ scratch₀
-      unfolding asked asked_by answered
-      asked-room no_room = rw (← good) (rw (sym is ∙ no_room))
-
-      pub asked-rows : fit ≡ true → (a : Answer) (page uses roles scratch : List ℕ) → answering a page uses roles scratch ≡ ended h store page₀ uses₀ roles₀ scratch₀
-          → asking (said.Rows a h.rows) page uses roles scratch ≡ asked store page₀ uses₀ roles₀ scratch₀
-      unfolding asked asked_by answered
-      asked-rows room a page uses roles scratch e =
-          rw (← good) (rw (sym is ∙ room) (ap (λ (o : Outcome). record { answer = said.Rows o.answer h.rows; lent = o.lent }) e))
-
-      pub asked-wide : fit ≡ true → scratch_bytes ≤ length scratch₀
-      asked-wide room = room-scratch (h.n * h.l) h.rows (length page₀) (length uses₀ / 2) (length roles₀) (length scratch₀) (sym is ∙ room)

@@ -1,4 +1,3 @@
-pub mod Copy
 pub mod Sizes
 pub mod Answered
 pub mod Settled

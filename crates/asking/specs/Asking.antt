@@ -1,6 +1,6 @@
 -- Asking a store. Document 02, wish 5: "asking gives 3 for the store, 10, 3 for the rest, then 5 to 7"; "Asking lends what a reading does, list apart, and
 -- leaves the store."
-use Rattle.std.specs.Prelude.{ℕ, ◌*◌, ◌/◌, cond, List, length, take}
+use Rattle.std.specs.Prelude.{ℕ, ◌*◌, ◌/◌, cond, Result, Ok, Err, List, length, take}
 use Rattle.octets.specs.Octets.{over}
 use Rattle.rows.specs.Rows.{list_row_bytes}
 use Rattle.reading.specs.declared.Answer.{Answer}
@@ -12,33 +12,33 @@ use Rattle.state.specs.Layout.{uses_part, places_part}
 use Rattle.marks.specs.Mark.{pairs_after}
 use Rattle.tail.specs.Tail.{roles_in, finished}
 use Rattle.store.specs.declared.Head.{Head}
-use Rattle.store.specs.declared.Header.{Header}
-use Rattle.store.specs.declared.Header.TheVariants as header
+use Rattle.store.specs.declared.Refusal.{Refusal}
 use Rattle.store.specs.Store.{list_in, working_in}
-use Rattle.store.specs.Header.{header_of}
+use Rattle.store.specs.Header.{number_of, header_of}
 use Rattle.asking.specs.declared.Asked.{Asked}
-use Rattle.asking.specs.declared.Asked.TheVariants as said
 
 -- Document 02's number for each answer, with rank, place and agreement as a reading has them; and how many rows the store has, where that is known.
-unfoldable pub numbers_of : Asked → Numbers
-numbers_of said.Short = numbered 3 0 0 0
-numbers_of said.Header = numbered 10 0 0 0
-numbers_of (said.Rows a rows) = answer_numbers a
+unfoldable pub numbers_of : Result Asked Refusal → Numbers
+numbers_of (Err e) = numbered (number_of e) 0 0 0
+numbers_of (Ok a) = answer_numbers a.answer
 
-unfoldable pub rows_of : Asked → ℕ
-rows_of said.Short = 0
-rows_of said.Header = 0
-rows_of (said.Rows a rows) = rows
+unfoldable pub rows_of : Result Asked Refusal → ℕ
+rows_of (Err e) = 0
+rows_of (Ok a) = a.rows
+
+-- Past the check of the header: an answer for so many rows.
+abbrev pub said : Answer → ℕ → Result Asked Refusal
+said a rows = Ok (record { answer = a; rows = rows })
 
 -- The answer, and the lent buffers at exit.
 pub record Asking : Type 0 where
-  pub answer : Asked
+  pub answer : Result Asked Refusal
   pub lent : Lent
 
 abbrev pub lending : List ℕ → List ℕ → List ℕ → List ℕ → Lent
 lending page uses roles scratch = record { page = page; uses = uses; roles = roles; scratch = scratch }
 
-abbrev pub asking : Asked → List ℕ → List ℕ → List ℕ → List ℕ → Asking
+abbrev pub asking : Result Asked Refusal → List ℕ → List ℕ → List ℕ → List ℕ → Asking
 asking a page uses roles scratch = record { answer = a; lent = lending page uses roles scratch }
 
 abbrev pub answering : Answer → List ℕ → List ℕ → List ℕ → List ℕ → Outcome
@@ -65,12 +65,11 @@ answered h store page uses roles scratch =
 
 -- ---- by the header
 
-unfoldable pub asked_by : Header → List ℕ → List ℕ → List ℕ → List ℕ → List ℕ → Asking
-asked_by header.Short store page uses roles scratch = asking said.Short page uses roles scratch
-asked_by header.OutOfRange store page uses roles scratch = asking said.Header page uses roles scratch
-asked_by (header.Good h) store page uses roles scratch =
+unfoldable pub asked_by : Result Head Refusal → List ℕ → List ℕ → List ℕ → List ℕ → List ℕ → Asking
+asked_by (Err e) store page uses roles scratch = asking (Err e) page uses roles scratch
+asked_by (Ok h) store page uses roles scratch =
     let o = answered h store page uses roles scratch in
-    record { answer = said.Rows o.answer h.rows; lent = o.lent }
+    record { answer = said o.answer h.rows; lent = o.lent }
 
 unfoldable pub asked : List ℕ → List ℕ → List ℕ → List ℕ → List ℕ → Asking
 asked store page uses roles scratch = asked_by (header_of store) store page uses roles scratch

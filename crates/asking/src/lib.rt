@@ -10,44 +10,18 @@ ghost use Rattle.tail.specs.Tail.{ends, roles_in, finished};
 ghost use Rattle.store.specs.Store.{store_bytes};
 ghost use Rattle.asking.specs.Asking.{asking, answering, ended, asked};
 
+use gate::Lengths;
 use reading::Answer;
-use store::{Head, Header};
+use store::Head;
 
-// The answer of asking, and how many rows the store has; specs/Asking.antt gives document 02's numbers for each case.
+// What asking answers, past the check of the header, and how many rows the store has; specs/Asking.antt gives document 02's numbers for each case.
 #[derive(Clone, Copy)]
-pub enum Asked {
-    Short,
-    Header,
-    Rows { answer: Answer, rows: usize },
+pub struct Asked {
+    pub answer: Answer,
+    pub rows: usize,
 }
 
-// The tail of a reading in the front of the scratch; what stands behind the state stays.
-fn finish_in(
-    head: Head,
-    list: &[u8],
-    page: &mut [u8],
-    roles: &mut [u8],
-    scratch: &mut [u8],
-) -> Answer
-    requires { scratch_bytes ≤ length scratch.old }
-    ensures end { ends result (take state_bytes scratch.new) page.new
-        ≡ finished head.n head.l list.now head.taken head.rank (take state_bytes scratch.old) roles.old page.old }
-    ensures roles { roles.new ≡ roles_in head.n head.l list.now head.rank (take state_bytes scratch.old) roles.old }
-    ensures behind { over zeros scratch.new ≡ over zeros scratch.old }
-{
-    tail::finish(
-        head.n,
-        head.l,
-        list,
-        head.taken,
-        head.rank,
-        &mut scratch[..state::BYTES],
-        roles,
-        page,
-    )
-}
-
-// The same from a working, which is copied to the front of the scratch.
+// The tail of a reading from a working, which is copied to the front of the scratch; what stands behind it stays.
 fn finish_from(
     working: &[u8],
     head: Head,
@@ -56,14 +30,18 @@ fn finish_from(
     roles: &mut [u8],
     scratch: &mut [u8],
 ) -> Answer
-    requires { (length working.now ≡ state_bytes) × (scratch_bytes ≤ length scratch.old) }
+    requires whole { length working.now ≡ state_bytes }
+    requires room { scratch_bytes ≤ length scratch.old }
     ensures end { ends result (take state_bytes scratch.new) page.new
         ≡ finished head.n head.l list.now head.taken head.rank working.now roles.old page.old }
     ensures roles { roles.new ≡ roles_in head.n head.l list.now head.rank working.now roles.old }
     ensures behind { over zeros scratch.new ≡ over zeros scratch.old }
 {
-    octets::copy(scratch, working);
-    finish_in(head, list, page, roles, scratch)
+    let state = &mut scratch[..state::BYTES];
+    state.copy_from_slice(working);
+    tail::finish(
+        head.n, head.l, list, head.taken, head.rank, state, roles, page,
+    )
 }
 
 // Answers for the rows of a store, where the buffers have room.
@@ -75,7 +53,10 @@ fn answer_rows(
     roles: &mut [u8],
     scratch: &mut [u8],
 ) -> Answer
-    requires { (store_bytes ≤ length store.now) × (head.l ≤ 32) × (head.rows ≤ most_rows) × (scratch_bytes ≤ length scratch.old) }
+    requires long { store_bytes ≤ length store.now }
+    requires narrow { head.l ≤ 32 }
+    requires few { head.rows ≤ most_rows }
+    requires room { scratch_bytes ≤ length scratch.old }
     ensures { answering result page.new uses.new roles.new scratch.new
         ≡ ended head store.now page.old uses.old roles.old scratch.old }
 {
@@ -89,41 +70,37 @@ fn answer_rows(
         roles,
         scratch,
     );
-    ends::in_pairs(answer, head.rows, uses, scratch);
+    ends::end(answer, head.rows, uses, scratch);
     answer
 }
 
-// Asks a store. It answers as a reading of its rows does, and writes what that writes, with uses as pairs of bytes, the higher byte first.
+// Asks a store. It answers as a reading of its rows does, and writes what that writes, with uses as pairs of bytes, the higher byte first. The buffers are
+// no struct, as for a reading: of references in a struct a clause could say what they leave only by their places in it.
+#[tactic(auto, unfolding(crate::specs::Asking::asked, crate::specs::Asking::asked_by, crate::specs::Asking::answered, reading::specs::Outcome::room_for))]
 pub fn ask(
     store: &[u8],
     page: &mut [u8],
     uses: &mut [u8],
     roles: &mut [u8],
     scratch: &mut [u8],
-) -> Asked
+) -> Result<Asked, store::Refusal>
     ensures { asking result page.new uses.new roles.new scratch.new
         ≡ asked store.now page.old uses.old roles.old scratch.old }
 {
-    match store::check(store) {
-        Header::Short => Asked::Short,
-        Header::OutOfRange => Asked::Header,
-        Header::Good(head) => {
-            let rows = head.rows;
-            if !gate::room_fits(
-                head.n as usize * head.l as usize,
-                rows,
-                page.len(),
-                uses.len() / 2,
-                roles.len(),
-                scratch.len(),
-            ) {
-                return Asked::Rows {
-                    answer: Answer::Room,
-                    rows,
-                };
-            }
-            let answer = answer_rows(store, head, page, uses, roles, scratch);
-            Asked::Rows { answer, rows }
-        }
+    let head = store::check(store)?;
+    let rows = head.rows;
+    let lent = Lengths {
+        page: page.len(),
+        uses: uses.len() / 2,
+        roles: roles.len(),
+        scratch: scratch.len(),
+    };
+    if !gate::room_fits(head.n as usize * head.l as usize, rows, lent) {
+        return Ok(Asked {
+            answer: Answer::Room,
+            rows,
+        });
     }
+    let answer = answer_rows(store, head, page, uses, roles, scratch);
+    Ok(Asked { answer, rows })
 }

@@ -8,6 +8,10 @@ use native.Mathlib.Omega.{arith}
 use lib.Bits.{bit_and, and_block, and_self, and_mask}
 use lib.Count.{count_leading_zeros, leading_top, count_trailing_zeros, under}
 use lib.Pow.{pow_pos, pow-add, low}
+use Rattle.std.proofs.Common.{Option, Some, None}
+use Rattle.std.specs.Option.{IfNone, IfSome, unwrap_or}
+use Rattle.std.specs.Int.Bits.{and_zero_l}
+use Rattle.octets.proofs.Digits.{pow_lt_inv}
 use Rattle.bits.specs.Bits.{highest, lowest}
 
 -- ---- the highest
@@ -18,6 +22,16 @@ highest_place x p h =
     let j = leading_top 64 x p h in
     let is : 63 - count_leading_zeros 64 x ≡ j.0 = omega (arith, j.1) in
     rw is (j.1, j.2, j.3)
+
+-- where the logarithm of a number says
+pub log_highest : (x : ℕ) (log : Option ℕ) → x < 2 ^ 64 → IfNone log (x ≡ 0) → IfSome log (λ k. 2 ^ k ≤ x) → IfSome log (λ k. x < 2 * 2 ^ k) → unwrap_or log 0 ≡ highest x
+unfolding highest count_leading_zeros
+log_highest x None fits none least most = rw none
+log_highest x (Some k) fits none least most =
+    let place = highest_place x (omega (arith, least, pow_pos k)) fits in
+    let above : k < suc (highest x) = pow_lt_inv k (suc (highest x)) (omega (arith, least, place.2)) in
+    let below : highest x < suc k = pow_lt_inv (highest x) (suc k) (omega (arith, most, place.1, pow-suc 2 k)) in
+    unfold highest in omega (arith, above, below)
 
 -- ---- the lowest
 
@@ -74,6 +88,13 @@ and_less k x L =
 
 pub lowest_away : (x : ℕ) → 0 < x → x < 2 ^ 64 → bit_and x (x - 1) ≡ x - 2 ^ lowest x
 lowest_away x p h = omega (arith, and_less (lowest x) x (lowest_place x p h))
+
+-- the same for each number, as a word of 64 bits computes it
+pub lowest_off : (x : ℕ) → x < 2 ^ 64 → bit_and x ((x + (2 ^ 64 - 1)) % 2 ^ 64) ≡ x - 2 ^ lowest x
+lowest_off zero h = and_zero_l ((2 ^ 64 - 1) % 2 ^ 64) ∙ omega (arith, pow_pos (lowest 0))
+lowest_off (suc x) h =
+    let less : (suc x + (2 ^ 64 - 1)) % 2 ^ 64 ≡ suc x - 1 = omega arith in
+    rw less (lowest_away (suc x) (omega arith) h)
 
 -- what is left, and the bit
 pub lowest-back : (x : ℕ) → 0 < x → x < 2 ^ 64 → x - 2 ^ lowest x + 2 ^ lowest x ≡ x

@@ -7,6 +7,7 @@ use native.Mathlib.Omega.{arith}
 use mathlib.Core.Bool.{Bool, true, false, cond, not, ◌&&◌, true≢false}
 use mathlib.Core.List.{List}
 use lib.Dec.{leb}
+use Rattle.std.specs.Prelude.{Ok, Err}
 use lib.ListN.{length, take}
 use borrow.Author.Tests.{leb-true}
 use Rattle.space.proofs.Both.{both}
@@ -23,7 +24,7 @@ use Rattle.reading.proofs.Checks.{Passed, passed, roomy-fits}
 use Rattle.reading.proofs.Writes.{EarlyCheck, checks_early}
 use Rattle.reading.proofs.Given.{outcome-read, given-passes, given-read}
 use Rattle.reading.proofs.Page.{length-page_of, page_of_below}
-use Rattle.gate.specs.declared.Gate.TheVariants as gates
+use Rattle.gate.specs.declared.Refusal.TheVariants as refusals
 use Rattle.gate.specs.Gate.{gate}
 use Rattle.reader.specs.Reader.{outcome_of}
 use Rattle.apart.specs.Apart.{apart}
@@ -46,7 +47,7 @@ module _ (n l : ℕ) (list : List ℕ) (lent : Lent) (s : Second) where
     where
       go : (sh wh li two one : Bool) (x : Check) → leb (length list) (length s.list) ≡ li
           → cond (not sh) (refuses answer.Shape) (cond (not wh) (refuses answer.List) (cond (not ((li && two) && one)) (refuses answer.Room) x))
-          ≡ cond (fits_too (cond (not sh) gates.Shape (cond (not wh) gates.List (cond (not two) gates.Room gates.Open))) (length list) (length s.list))
+          ≡ cond (fits_too (cond (not sh) (Err refusals.Shape) (cond (not wh) (Err refusals.List) (cond (not two) (Err refusals.Room) (Ok tt)))) (length list) (length s.list))
           (cond (not sh) (refuses answer.Shape) (cond (not wh) (refuses answer.List) (cond (not one) (refuses answer.Room) x))) (refuses answer.Room)
       go false wh li two one x e = refl
       go true false li two one x e = refl
@@ -105,7 +106,7 @@ module _ (n l : ℕ) (list : List ℕ) (lent : Lent) (s : Second) where
         go (leb (length list) (length s.list))
         (room_for (n * l) (length list / list_row_bytes l) (length s.page) (length s.uses) (length s.roles) (length lent.scratch)) refl (rw (P.shaped, whole) at e)
       where
-        go : (li two : Bool) → leb (length list) (length s.list) ≡ li → fits_too (cond (not two) gates.Room gates.Open) (length list) (length s.list) ≡ true → (li && two) ≡ true
+        go : (li two : Bool) → leb (length list) (length s.list) ≡ li → fits_too (cond (not two) (Err refusals.Room) (Ok tt)) (length list) (length s.list) ≡ true → (li && two) ≡ true
         go li true q h = rw (sym q ∙ h)
         go li false q h = absurd (let z : ◌≡◌ {A = Bool} false true = h in true≢false (sym z))
 

@@ -5,11 +5,13 @@
 ghost use Rattle.std.specs.Prelude.{◌≡◌};
 ghost use Rattle.rows.specs.Rows.{entries_of};
 ghost use Rattle.rows.specs.Bytes.{cut};
+ghost use Rattle.reading.specs.declared.Answer.TheVariants as answer;
 ghost use Rattle.reader.specs.Reader.{buffers};
 ghost use Rattle.apart.specs.Apart.{apart};
 ghost use Rattle.both.specs.Pairs.{counted_too, both_in_pairs};
 ghost use Rattle.both.specs.Parts.{second, pair, Passing, second_ending, secondly};
 
+use gate::Lengths;
 use reading::Answer;
 
 // The answers of both readings, and how many rows the second list has.
@@ -18,6 +20,17 @@ pub struct Both {
     pub first: Answer,
     pub second: Answer,
     pub rows: usize,
+}
+
+// "If the first answer isn't 0, the second is 5 with rank 0".
+fn alone(first: Answer) -> Both
+    ensures { result ≡ record { first = first; second = answer.Few 0; rows = 0 } }
+{
+    Both {
+        first,
+        second: Answer::Few { rank: 0 },
+        rows: 0,
+    }
 }
 
 // ---- the second list
@@ -52,7 +65,8 @@ fn follow(
 
 // ---- both
 
-// Reads a list, and the rows of it that do not agree with the page that it gives. Uses are pairs of bytes, the higher byte first.
+// Reads a list, and the rows of it that do not agree with the page that it gives. Uses are pairs of bytes, the higher byte first. The buffers are no struct, as
+// `reader` says.
 pub fn read_both(
     n: u8,
     l: u8,
@@ -70,34 +84,18 @@ pub fn read_both(
         ≡ both_in_pairs n l list.now (buffers page.old uses.old roles.old scratch.old)
         (second list2.old page2.old uses2.old roles2.old) }
 {
-    let none = Answer::Few { rank: 0 };
-    if !second_room::fits_too(
-        n,
-        l,
-        list.len(),
-        list2.len(),
-        page2.len(),
-        uses2.len() / 2,
-        roles2.len(),
-        scratch.len(),
-    ) {
-        return Both {
-            first: Answer::Room,
-            second: none,
-            rows: 0,
-        };
+    let lent2 = Lengths {
+        page: page2.len(),
+        uses: uses2.len() / 2,
+        roles: roles2.len(),
+        scratch: scratch.len(),
+    };
+    if !second_room::fits_too(n, l, list.len(), list2.len(), lent2) {
+        return alone(Answer::Room);
     }
     let first = reader::read_pairs(n, l, list, page, uses, roles, scratch);
-    let Answer::Page {
-        rank: _,
-        agreement: _,
-    } = first
-    else {
-        return Both {
-            first,
-            second: none,
-            rows: 0,
-        };
+    let Answer::Page { .. } = first else {
+        return alone(first);
     };
     let size = n as usize * l as usize;
     follow(

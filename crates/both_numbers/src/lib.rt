@@ -1,4 +1,5 @@
-// The numbers of both readings of a page, as the boundary gives them.
+// The numbers of both readings of a page, as the boundary gives them: an array, since they cross to C in a row. A From would have to stand in `both`, where no one
+// else needs it.
 #![tactic(auto)]
 
 ghost use Rattle.std.specs.Prelude.{◌≡◌};

@@ -1,5 +1,5 @@
 // What a phone app calls to read a list: two functions over the C boundary, for any bytes at all. The result is document 01's answer number, the other
-// numbers come back through references, and a refusal gives those that have no meaning as 0.
+// numbers come back through references, and a refusal gives those that have no meaning as 0. Each buffer is an argument of its own: C lends them so.
 #![tactic(auto)]
 
 ghost use Rattle.std.specs.Prelude.{◌≡◌};

@@ -7,12 +7,12 @@ ghost use Rattle.rows.specs.Rows.{list_row_bytes};
 ghost use Rattle.frame.specs.Reading.{reading};
 ghost use Rattle.frame.specs.Numbers.{frame_numbers};
 ghost use Rattle.laying.specs.Laying as laying;
-ghost use Rattle.telling.specs.Told.{told_by};
-ghost use Rattle.boundary_frames.specs.Framed.{framed, told};
+ghost use Rattle.telling.specs.Told.{told, told_by};
+ghost use Rattle.boundary_frames.specs.Framed.{framed};
 
 use places::Arrival;
 
-// Reads a frame: where its payload starts, and what the frame says.
+// Reads a frame: where its payload starts, and what the frame says. The numbers come back one by one, as the C interface has them.
 #[unsafe(no_mangle)]
 pub extern "C" fn mekorvat_read_frame(
     frame: &[u8],
@@ -36,7 +36,7 @@ pub extern "C" fn mekorvat_read_frame(
     numbers.number
 }
 
-// Lays the row of a frame of the expected page into the list, at the arrival number.
+// Lays the row of a frame of the expected page into the list, at the arrival number. What it takes is the C interface's.
 #[unsafe(no_mangle)]
 pub extern "C" fn mekorvat_lay(
     frame: &[u8],

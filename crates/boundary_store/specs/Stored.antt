@@ -1,18 +1,16 @@
 -- What crosses the boundary of a store: numbers one by one, and buffers of bytes.
-use Rattle.std.specs.Prelude.{ℕ, List}
+use Rattle.std.specs.Prelude.{ℕ, Result, List}
 use Rattle.reading.specs.declared.Numbers.{Numbers}
 use Rattle.reading.specs.Answer.{numbered}
 use Rattle.reading.specs.Outcome.{Lent}
 use Rattle.telling.specs.declared.Told.{Told}
-use Rattle.offering.specs.declared.Offered.{Offered}
+use Rattle.telling.specs.Told.{told}
+use Rattle.offering.specs.declared.Refusal.{Refusal}
 use Rattle.offering.specs.Offering as offering
 use Rattle.asking.specs.Asking.{lending, numbers_of, rows_of, asked}
 
 -- Number and place of an offer.
-abbrev pub told : ℕ → ℕ → Told
-told number place = record { number = number; place = place }
-
-abbrev pub offer_told : Offered → Told
+abbrev pub offer_told : Result Unit Refusal → Told
 offer_told a = told (offering.number_of a) (offering.place_of a)
 
 -- The numbers of asking, how many rows the store has, and the buffers go across.

@@ -4,84 +4,58 @@
 
 ghost use Rattle.std.specs.Prelude.{◌≡◌};
 ghost use Rattle.opening.specs.Opening as opening;
+ghost use Rattle.telling.specs.Told.{told};
 ghost use Rattle.offering.specs.Offering.{offer_answer, offered_store};
 ghost use Rattle.asking.specs.Asking as asking;
-ghost use Rattle.boundary_store.specs.Stored.{told, offer_told, across, asked_across};
+ghost use Rattle.boundary_store.specs.Stored.{offer_told, across, asked_across};
 
 use asking::Asked;
-use offering::Offered;
-use opening::Opened;
+use offering::Refusal;
 use reading::Numbers;
 use telling::Told;
 
-// ---- the numbers of each answer
-
-fn open_number(answer: Opened) -> u8
-    ensures { result ≡ opening.number_of answer }
-{
-    match answer {
-        Opened::Open => 0,
-        Opened::Shape => 1,
-        Opened::Room => 3,
-    }
-}
+// ---- the numbers of each answer: functions, since neither the answers nor their numbers are types of this crate, and so From can't be written here
 
 // A refusal of the frame, and of laying it, is passed on.
-fn offer_told(answer: Offered) -> Told
+#[tactic(auto, unfolding(offering::specs::Offering::number_of, offering::specs::Offering::place_of, laying::specs::Laying::number_of, laying::specs::Laying::place_of))]
+fn offer_told(answer: Result<(), Refusal>) -> Told
     ensures { result ≡ offer_told answer }
 {
     match answer {
-        Offered::Room => Told {
-            number: 3,
+        Ok(()) => telling::told_by(Ok(())),
+        Err(Refusal::Store(refusal)) => Told {
+            number: refusal.into(),
             place: 0,
         },
-        Offered::Header => Told {
-            number: 10,
-            place: 0,
-        },
-        Offered::Laid(laid) => telling::told_by(laid),
+        Err(Refusal::Laying(refusal)) => refusal.into(),
     }
 }
 
-fn ask_numbers(answer: Asked) -> Numbers
+#[tactic(auto, unfolding(asking::specs::Asking::numbers_of))]
+fn ask_numbers(answer: Result<Asked, store::Refusal>) -> Numbers
     ensures { result ≡ asking.numbers_of answer }
 {
     match answer {
-        Asked::Short => Numbers {
-            number: 3,
+        Ok(asked) => answer_numbers::numbers_of(asked.answer),
+        Err(refusal) => Numbers {
+            number: refusal.into(),
             rank: 0,
             place: 0,
             agreement: 0,
         },
-        Asked::Header => Numbers {
-            number: 10,
-            rank: 0,
-            place: 0,
-            agreement: 0,
-        },
-        Asked::Rows { answer, rows: _ } => answer_numbers::numbers_of(answer),
-    }
-}
-
-fn ask_rows(answer: Asked) -> usize
-    ensures { result ≡ asking.rows_of answer }
-{
-    match answer {
-        Asked::Short => 0,
-        Asked::Header => 0,
-        Asked::Rows { answer: _, rows } => rows,
     }
 }
 
 // ---- the calls
 
 // Opens a store for a page.
+#[tactic(auto, unfolding(opening::specs::Opening::number_of))]
 #[unsafe(no_mangle)]
 pub extern "C" fn mekorvat_open(store: &mut [u8], page: u32, n: u8, l: u8) -> u8
     ensures number { result ≡ opening.number_of (opening.open_answer n l store.old) }
     ensures store { store.new ≡ opening.opened_store page n l store.old }
 {
-    open_number(opening::open(store, page, n, l))
+    opening::open(store, page, n, l).err().map_or(0, u8::from)
 }
 
 // Offers a frame to a store.
@@ -95,7 +69,8 @@ pub extern "C" fn mekorvat_offer(store: &mut [u8], frame: &[u8], place: &mut usi
     told.number
 }
 
-// Asks a store. Uses are lent as bytes, two for each row, the high byte first.
+// Asks a store. Uses are lent as bytes, two for each row, the high byte first. The numbers come back one by one, as the C interface has them.
+#[tactic(auto, unfolding(asking::specs::Asking::rows_of, crate::specs::Stored::asked_across))]
 #[unsafe(no_mangle)]
 pub extern "C" fn mekorvat_ask(
     store: &[u8],
@@ -116,6 +91,6 @@ pub extern "C" fn mekorvat_ask(
     *rank = numbers.rank;
     *place = numbers.place;
     *agreement = numbers.agreement;
-    *rows = ask_rows(asked);
+    *rows = asked.map_or(0, |asked| asked.rows);
     numbers.number
 }

@@ -4,37 +4,17 @@
 ghost use Rattle.std.specs.Prelude.{◌≡◌};
 ghost use Rattle.checks.specs.Checks.{check_of, all_checks};
 
-use gate::Gate;
+use gate::Lengths;
 use reading::Answer;
-use strays::Stray;
 
-// What the checks say: the list passes, or the first answer that applies.
-#[derive(Clone, Copy)]
-pub enum Checked {
-    Refused(Answer),
-    Passed,
-}
-
-// What the checks 1 to 4 say of a list, for buffers of these lengths.
-pub fn all(
-    n: u8,
-    l: u8,
-    list: &[u8],
-    page: usize,
-    uses: usize,
-    roles: usize,
-    scratch: usize,
-) -> Checked
-    ensures { check_of result ≡ all_checks n l list.now page uses roles scratch }
+// What the checks 1 to 4 say of a list, for buffers of these lengths: it passes, or the first answer that applies.
+#[tactic(auto, unfolding(crate::specs::Checks::check_of, crate::specs::Checks::all_checks, crate::specs::Checks::through, strays::specs::Strays::stray_check))]
+pub fn all(n: u8, l: u8, list: &[u8], lent: Lengths) -> Result<(), Answer>
+    ensures { check_of result ≡ all_checks n l list.now lent.page lent.uses lent.roles lent.scratch }
 {
-    match gate::check(n, l, list.len(), page, uses, roles, scratch) {
-        Gate::Shape => return Checked::Refused(Answer::Shape),
-        Gate::List => return Checked::Refused(Answer::List),
-        Gate::Room => return Checked::Refused(Answer::Room),
-        Gate::Open => {}
-    }
+    gate::check(n, l, list.len(), lent)?;
     match strays::first_stray(n, l, list) {
-        Stray::At(arrival) => Checked::Refused(Answer::Stray(arrival)),
-        Stray::Nowhere => Checked::Passed,
+        Some(arrival) => Err(Answer::Stray(arrival)),
+        None => Ok(()),
     }
 }

@@ -13,6 +13,7 @@ use lib.Dec.{leb}
 use borrow.Author.Tests.{le-leb, lt-leb, leb-true, not-true}
 use Rattle.space.specs.Lists.{select, marked, count, above, Below}
 use Rattle.space.proofs.Lists.{map_both, count-marked, above-least}
+use Rattle.doubles.proofs.Doubles.{length_pairs}
 use Rattle.reading.specs.Reading.{picks}
 use Rattle.reading.proofs.Pick.{select_true}
 use Rattle.choose.specs.Pick.{least}
@@ -105,3 +106,6 @@ module _ (n : ℕ) (us : List ℕ) where
       go (yes l) = rw (le-leb (count (leb (low + half)) us) n l) (from, (least_exactly (low + half)).0 l)
       go (no l) = let k : ¬ (least n us ≤ low + half) = λ m. l ((least_exactly (low + half)).1 m) in
           rw (lt-leb (count (leb (low + half)) us) n (omega arith)) (omega arith, omega arith)
+
+-- what says how many are picked, of the bytes that count the uses
+pub ruleset picking = (length_pairs, marked-least)

@@ -1,9 +1,9 @@
 -- Which kept rows are picked, said by one number: the fewest uses that a picked row can have. Document 01, "How a list is read".
-use Rattle.std.specs.Prelude.{ℕ, cond, not, List, map, eqb, ltb, length}
+use Rattle.std.specs.Prelude.{ℕ, cond, not, List, map, eqb, ltb, length, Result, Ok, Err}
 use Rattle.space.specs.Lists.{select, marked, above}
 use Rattle.reading.specs.Reading.{picks}
-use Rattle.choose.specs.declared.Choice.{Choice}
-use Rattle.choose.specs.declared.Choice.TheVariants.{Few, Tie, Picked}
+use Rattle.choose.specs.declared.Unpicked.{Unpicked}
+use Rattle.choose.specs.declared.Unpicked.TheVariants.{Few, Tie}
 
 -- More uses than two bytes can count.
 abbrev pub none_picked : ℕ
@@ -15,5 +15,5 @@ unfoldable pub least : ℕ → List ℕ → ℕ
 least n us = above (select (map not (picks n us)) us)
 
 -- Few is 5, "r below n"; Tie is 6, "r over n, pick not unique"; else the rows with that many uses or more.
-unfoldable pub choice_of : ℕ → List ℕ → Choice
-choice_of n us = cond (ltb (length us) n) Few (cond (eqb (marked (picks n us)) n) (Picked (least n us)) Tie)
+unfoldable pub choice_of : ℕ → List ℕ → Result ℕ Unpicked
+choice_of n us = cond (ltb (length us) n) (Err Few) (cond (eqb (marked (picks n us)) n) (Ok (least n us)) (Err Tie))

@@ -6,12 +6,11 @@ ghost use Rattle.space.specs.Lists.{count};
 ghost use Rattle.doubles.specs.Doubles.{pairs_in};
 ghost use Rattle.choose.specs.Pick as pick;
 
-// What the uses choose: too few rows, answer 5 of a reading; a tie, its answer 6; or the rows with this many uses or more.
+// Why the uses choose no rows: too few, answer 5 of a reading; or a tie, its answer 6.
 #[derive(Clone, Copy)]
-pub enum Choice {
+pub enum Unpicked {
     Few,
     Tie,
-    Picked(usize),
 }
 
 // More uses than two bytes can count: the rows with so many are none.
@@ -21,12 +20,9 @@ pub const NONE_PICKED: usize = 65536;
 fn reached(counts: &[u8], least: usize) -> usize
     ensures { result ≡ count (leb least) (pairs_in counts.now) }
 {
-    let mut sum = 0;
-    for i in 0..counts.len() / 2 {
-        let uses = doubles::pair(counts, i) as usize;
-        sum += (least <= uses) as usize;
-    }
-    sum
+    (0..counts.len() / 2)
+        .filter(|&i| least <= doubles::pair(counts, i) as usize)
+        .count()
 }
 
 // The number sought is `low` or more. It is above `middle` exactly where more than n rows reach `middle`.
@@ -54,18 +50,19 @@ fn least(n: usize, counts: &[u8]) -> usize
     low
 }
 
-// Which kept rows are picked, from the bytes that count their uses, 2 for each kept place.
-pub fn pick(n: u8, counts: &[u8]) -> Choice
+// Which kept rows are picked, from the bytes that count their uses, 2 for each kept place: those with this many uses or more.
+#[tactic(auto, using(crate::proofs::Threshold::picking), unfolding(crate::specs::Pick::choice_of))]
+pub fn pick(n: u8, counts: &[u8]) -> Result<usize, Unpicked>
     ensures { result ≡ pick.choice_of n (pairs_in counts.now) }
 {
     let symbols = n as usize;
     if counts.len() / 2 < symbols {
-        return Choice::Few;
+        return Err(Unpicked::Few);
     }
     let least = least(symbols, counts);
     if reached(counts, least) == symbols {
-        Choice::Picked(least)
+        Ok(least)
     } else {
-        Choice::Tie
+        Err(Unpicked::Tie)
     }
 }

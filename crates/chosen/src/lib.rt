@@ -14,11 +14,7 @@ use places::Arrival;
 pub fn role(roles: &[u8], arrival: Arrival) -> u8
     ensures { result ≡ get_or roles.now arrival.0 0 }
 {
-    let at = arrival.0;
-    if roles.len() <= at {
-        return 0;
-    }
-    roles[at]
+    roles.get(arrival.0).copied().unwrap_or(0)
 }
 
 // What a row with its role adds to the count: nothing unless its role is 2, and 64 more than one where it strays.
@@ -27,39 +23,35 @@ fn adds(n: u8, row: &[u8], role: u8) -> usize
     ensures { result ≡ weight n (length row.now - 8) (chosen (role ∷ []) (number row.now ∷ [])) }
 {
     if role != 2 {
-        return 0;
+        0
+    } else if rows::strays(n, words::word(row, 0)) {
+        65
+    } else {
+        1
     }
-    if rows::strays(n, words::word(row, 0)) {
-        return 65;
-    }
-    1
 }
 
 // What the rows of a list add to it.
 fn adding(n: u8, l: u8, list: &[u8], roles: &[u8]) -> usize
-    requires { (row_count l list.now ≤ length roles.now) × (row_count l list.now ≤ most_rows) }
+    requires roles { row_count l list.now ≤ length roles.now }
+    requires few { row_count l list.now ≤ most_rows }
     ensures { result ≡ weight n l (chosen roles.now (rows_of l list.now)) }
 {
     let mut sum: usize = 0;
-    for arrival in 0..lists::count(list.len(), l) {
-        let arrival = Arrival(arrival);
+    for i in 0..lists::count(list.len(), l) {
+        let arrival = Arrival(i);
         sum += adds(n, lists::row(list, l, arrival), role(roles, arrival));
     }
     sum
 }
 
 // Whether the shape is in range, the list has whole rows with a role for each, and those with role 2 are n that name no symbol past the page.
+#[tactic(auto, unfolding(crate::specs::Chosen::proper, crate::specs::Chosen::listed, rows::specs::Rows::row_count, places::specs::Places::most_rows))]
 pub fn proper(n: u8, l: u8, list: &[u8], roles: &[u8]) -> bool
     ensures { result ≡ proper n l list.now roles.now }
 {
-    if !rows::shaped(n, l) {
-        return false;
-    }
-    if !gate::whole(l, list.len()) {
-        return false;
-    }
-    if roles.len() < lists::count(list.len(), l) {
-        return false;
-    }
-    adding(n, l, list, roles) == n as usize
+    rows::shaped(n, l)
+        && gate::whole(l, list.len())
+        && lists::count(list.len(), l) <= roles.len()
+        && adding(n, l, list, roles) == n as usize
 }

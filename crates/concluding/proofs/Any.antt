@@ -20,7 +20,7 @@ use Rattle.reading.specs.Marks.{uses_marks}
 use Rattle.reading.specs.Outcome.{zeros, read}
 use Rattle.reading.proofs.Checks.{most-512}
 use Rattle.reading.proofs.Counted.{length-counts}
-use Rattle.echelon.specs.declared.Eliminated.TheVariants.{Rank}
+use Rattle.std.specs.Prelude.{Some}
 use Rattle.echelon.specs.Eliminating.{elimination}
 use Rattle.holding.specs.Holds.{Distinct, Held}
 use Rattle.holding.proofs.Once.{once-distinct}
@@ -71,7 +71,7 @@ module _ (n l : ℕ) (list order : List ℕ) (m : ℕ) (state roles page : List 
   }
 
   -- elimination gives the rank, and from the state that it leaves the tail answers, marks and writes what the reading does
-  pub order-reads : Below 256 state → (uses₀ scratch₀ : List ℕ) → ((elimination l list m state).answer ≡ Rank (rank rows))
+  pub order-reads : Below 256 state → (uses₀ scratch₀ : List ℕ) → ((elimination l list m state).answer ≡ Some (rank rows))
       × (record { answer = ending.answer; lent = record { page = ending.page; uses = over (uses_marks l entries order) uses₀; roles = roles_in n l list (rank rows) left roles; scratch = over zeros scratch₀ } }
       ≡ read n l entries order (record { page = page; uses = uses₀; roles = roles; scratch = scratch₀ }))
   order-reads low uses₀ scratch₀ = (order-held.answer, concludes n l list order m left roles page (order_concludes (eliminated_low l list m state low)) uses₀ scratch₀)

@@ -28,8 +28,9 @@ use Rattle.views.proofs.Told.{part_below, order-told}
 use Rattle.views.proofs.Front.{order-front}
 use Rattle.state.specs.Layout.{uses_part, places_part, order_part, uses_at}
 use Rattle.state.proofs.Sizes.{sizes}
-use Rattle.choose.specs.declared.Choice.{Choice}
-use Rattle.choose.specs.declared.Choice.TheVariants.{Few, Tie, Picked}
+use Rattle.std.specs.Prelude.{Result, Ok, Err}
+use Rattle.choose.specs.declared.Unpicked.{Unpicked}
+use Rattle.choose.specs.declared.Unpicked.TheVariants.{Few, Tie}
 use Rattle.choose.specs.Pick.{least, choice_of}
 use Rattle.choose.proofs.Chosen.{choice_is}
 use Rattle.roles.specs.Role.{role_by}
@@ -38,7 +39,7 @@ use Rattle.agreement.proofs.Taken.{agreement-taken}
 use Rattle.same_page.specs.SameRows.{SameRows}
 use Rattle.chosen.specs.Chosen.{chosen}
 use Rattle.entering.specs.Enter.{slot_bytes}
-use Rattle.solve.specs.declared.Solved.TheVariants as solved
+use Rattle.solve.specs.declared.Unsolved.TheVariants.{Singular}
 use Rattle.solve.specs.Solve.{solvable, solve_page, solve_slots}
 use Rattle.solved.proofs.Answers.{picked-solvable, solve_answer_lem, solve_page_lem}
 use Rattle.holding.proofs.Tells.{counts_tell}
@@ -65,7 +66,7 @@ module _ (n l : ℕ) (list order : List ℕ) (m : ℕ) (state roles page : List 
   unfolding choice_in
   choice_in_lem = ap (choice_of n) (counts_tell l entries order state C.holds)
 
-  abbrev roles_by : Choice → List ℕ
+  abbrev roles_by : Result ℕ Unpicked → List ℕ
   roles_by choice = over (roles_marks (role_by choice) n l entries order) roles
 
   roles_in_lem : roles_in n l list (rank rows) state roles ≡ roles_by (choice_of n (uses rows))
@@ -75,7 +76,7 @@ module _ (n l : ℕ) (list order : List ℕ) (m : ℕ) (state roles page : List 
       (part_below uses_at most_kept (rank rows) state C.low) roles (omega (arith, O.roles_room, length-entries_of l list)) ∙ ap roles_by choice_in_lem
 
   -- the rows that have role 2 there are the picked ones
-  same : SameRows (chosen (roles_by (Picked (least n (uses rows)))) (rows_of l list)) (picked_rows n rows)
+  same : SameRows (chosen (roles_by (Ok (least n (uses rows)))) (rows_of l list)) (picked_rows n rows)
   same = chosen-any n l list order O.arrivals O.distinct roles
 
   -- ---- the verdict
@@ -84,7 +85,7 @@ module _ (n l : ℕ) (list order : List ℕ) (m : ℕ) (state roles page : List 
     abbrev lent : Lent
     lent = record { page = page; uses = uses₀; roles = roles; scratch = scratch₀ }
 
-    from : Choice → Ending → Outcome
+    from : Result ℕ Unpicked → Ending → Outcome
     from choice e =
         record { answer = e.answer; lent = record { page = e.page; uses = over (uses_marks l entries order) uses₀; roles = roles_by choice; scratch = over zeros scratch₀ } }
 
@@ -103,9 +104,9 @@ module _ (n l : ℕ) (list order : List ℕ) (m : ℕ) (state roles page : List 
     -- ---- n rows are picked
 
     module _ (one : tie n rows ≡ false) where
-      fit : solvable n l list (roles_by (Picked (least n (uses rows)))) state page ≡ true
+      fit : solvable n l list (roles_by (Ok (least n (uses rows)))) state page ≡ true
       fit =
-          picked-solvable n l list (roles_by (Picked (least n (uses rows)))) rows same one O.inside O.shaped O.rows_whole
+          picked-solvable n l list (roles_by (Ok (least n (uses rows)))) rows same one O.inside O.shaped O.rows_whole
           (omega (arith, O.roles_room, length_over (roles_marks telling n l entries order) roles (omega (arith, O.roles_room, length-roles telling n l list order)))) state page (omega (arith, slot-room, C.holds.room, sizes)) O.page_room
         where
           slot-room : slot_bytes ≡ 5632
@@ -120,20 +121,20 @@ module _ (n l : ℕ) (list order : List ℕ) (m : ℕ) (state roles page : List 
           order-left : pairs_in (order_part m (over (replicate slot_bytes 0) state)) ≡ order
           order-left = ap pairs_in (order-front (replicate slot_bytes 0) state slots_short C.holds.room m) ∙ (order-told m state C.holds.room O.few).1 ∙ O.stands
 
-      settled-reads : from (Picked (least n (uses rows))) (settled (rank rows) n l list m (roles_by (Picked (least n (uses rows)))) state page)
+      settled-reads : from (Ok (least n (uses rows))) (settled (rank rows) n l list m (roles_by (Ok (least n (uses rows)))) state page)
           ≡ told (cond (singular n l rows) dependent (answered given)) n l entries order lent
       unfolding settled
       settled-reads =
-          rw (solve_answer_lem n l list (roles_by (Picked (least n (uses rows)))) rows same one O.inside state page fit) (go (singular n l rows) refl)
+          rw (solve_answer_lem n l list (roles_by (Ok (least n (uses rows)))) rows same one O.inside state page fit) (go (singular n l rows) refl)
         where
           go : (s : Bool) → singular n l rows ≡ s
-              → from (Picked (least n (uses rows))) (settled_by (cond s solved.Singular solved.Page) (rank rows) n l list m (solve_slots (cond s solved.Singular solved.Page) state)
-              (solve_page (cond s solved.Singular solved.Page) n l list (roles_by (Picked (least n (uses rows)))) page))
+              → from (Ok (least n (uses rows))) (settled_by (cond s (Err Singular) (Ok tt)) (rank rows) n l list m (solve_slots (cond s (Err Singular) (Ok tt)) state)
+              (solve_page (cond s (Err Singular) (Ok tt)) n l list (roles_by (Ok (least n (uses rows)))) page))
               ≡ told (cond s dependent (answered given)) n l entries order lent
           go true e = unfold from settled_by solve_page told ended over in refl
           go false e =
               unfold settled_by solve_slots in
-              rw (solve_page_lem n l list (roles_by (Picked (least n (uses rows)))) rows same one O.inside e page, agreement_is) (unfold from told ended in refl)
+              rw (solve_page_lem n l list (roles_by (Ok (least n (uses rows)))) rows same one O.inside e page, agreement_is) (unfold from told ended in refl)
 
     -- ---- by what was chosen
 
@@ -142,8 +143,8 @@ module _ (n l : ℕ) (list order : List ℕ) (m : ℕ) (state roles page : List 
     reads_by = rw (choice_is n rows) (go (few n rows) (tie n rows) refl)
       where
         go : (f t : Bool) → tie n rows ≡ t
-            → from (cond f Few (cond t Tie (Picked (least n (uses rows)))))
-            (concluded (cond f Few (cond t Tie (Picked (least n (uses rows))))) (rank rows) n l list m (roles_by (cond f Few (cond t Tie (Picked (least n (uses rows)))))) state page)
+            → from (cond f (Err Few) (cond t (Err Tie) (Ok (least n (uses rows)))))
+            (concluded (cond f (Err Few) (cond t (Err Tie) (Ok (least n (uses rows))))) (rank rows) n l list m (roles_by (cond f (Err Few) (cond t (Err Tie) (Ok (least n (uses rows)))))) state page)
             ≡ told (cond f too_few (cond t tied (cond (singular n l rows) dependent (answered given)))) n l entries order lent
         go true t e = unfold from concluded told ended over in refl
         go false true e = unfold from concluded told ended over in refl

@@ -17,11 +17,12 @@ use Rattle.reading.specs.Orders.{taken}
 use Rattle.reading.specs.Marks.{places_given}
 use Rattle.state.specs.Layout.{uses_part, places_part, uses_at}
 use Rattle.state.proofs.Sizes.{sizes}
-use Rattle.choose.specs.declared.Choice.{Choice}
-use Rattle.choose.specs.declared.Choice.TheVariants.{Few, Tie, Picked}
+use Rattle.std.specs.Prelude.{Result, Ok, Err}
+use Rattle.choose.specs.declared.Unpicked.{Unpicked}
+use Rattle.choose.specs.declared.Unpicked.TheVariants.{Few, Tie}
 use Rattle.entering.specs.Enter.{slot_bytes}
-use Rattle.solve.specs.declared.Solved.{Solved}
-use Rattle.solve.specs.declared.Solved.TheVariants as solved
+use Rattle.solve.specs.declared.Unsolved.{Unsolved}
+use Rattle.solve.specs.declared.Unsolved.TheVariants.{Singular, Misfit}
 use Rattle.solve.specs.Solve.{solve_answer, solve_page, solve_slots}
 use Rattle.holding.specs.Holds.{Holds}
 use Rattle.holding.proofs.Tells.{counts_tell, counts-left, places_tell, places-left}
@@ -32,36 +33,34 @@ use Rattle.tail.specs.Tail.{choice_in, roles_in, settled_by, settled, concluded,
 Left : List ℕ → List ℕ → Type 0
 Left state left = (left ≡ state) ⊎ (left ≡ over (replicate slot_bytes 0) state)
 
-slots-left : (s : Solved) (state : List ℕ) → Left state (solve_slots s state)
+slots-left : (s : Result (Unit {0}) Unsolved) (state : List ℕ) → Left state (solve_slots s state)
 unfolding solve_slots Left
-slots-left solved.Page state = inr refl
-slots-left solved.Singular state = inr refl
-slots-left solved.Misfit state = inl refl
+slots-left (Ok _) state = inr refl
+slots-left (Err Singular) state = inr refl
+slots-left (Err Misfit) state = inl refl
 
 module _ (rank n l : ℕ) (list : List ℕ) (m : ℕ) where
-  settled-state : (s : Solved) (state page : List ℕ) → (settled_by s rank n l list m state page).state ≡ state
+  settled-state : (s : Result (Unit {0}) Unsolved) (state page : List ℕ) → (settled_by s rank n l list m state page).state ≡ state
   unfolding settled_by
-  settled-state solved.Page state page = refl
-  settled-state solved.Singular state page = refl
-  settled-state solved.Misfit state page = refl
+  settled-state (Ok _) state page = refl
+  settled-state (Err _) state page = refl
 
-  settled-rank : (s : Solved) (state page : List ℕ) → (answer_numbers (settled_by s rank n l list m state page).answer).rank ≡ rank
+  settled-rank : (s : Result (Unit {0}) Unsolved) (state page : List ℕ) → (answer_numbers (settled_by s rank n l list m state page).answer).rank ≡ rank
   unfolding settled_by answer_numbers
-  settled-rank solved.Page state page = refl
-  settled-rank solved.Singular state page = refl
-  settled-rank solved.Misfit state page = refl
+  settled-rank (Ok _) state page = refl
+  settled-rank (Err _) state page = refl
 
-  concluded-left : (choice : Choice) (roles state page : List ℕ) → Left state (concluded choice rank n l list m roles state page).state
+  concluded-left : (choice : Result ℕ Unpicked) (roles state page : List ℕ) → Left state (concluded choice rank n l list m roles state page).state
   unfolding concluded
-  concluded-left Few roles state page = unfold Left in inl refl
-  concluded-left Tie roles state page = unfold Left in inl refl
-  concluded-left (Picked t) roles state page = unfold settled in rw (settled-state (solve_answer n l list roles state page) (solve_slots (solve_answer n l list roles state page) state) (solve_page (solve_answer n l list roles state page) n l list roles page)) (slots-left (solve_answer n l list roles state page) state)
+  concluded-left (Err Few) roles state page = unfold Left in inl refl
+  concluded-left (Err Tie) roles state page = unfold Left in inl refl
+  concluded-left (Ok t) roles state page = unfold settled in rw (settled-state (solve_answer n l list roles state page) (solve_slots (solve_answer n l list roles state page) state) (solve_page (solve_answer n l list roles state page) n l list roles page)) (slots-left (solve_answer n l list roles state page) state)
 
-  concluded-rank : (choice : Choice) (roles state page : List ℕ) → (answer_numbers (concluded choice rank n l list m roles state page).answer).rank ≡ rank
+  concluded-rank : (choice : Result ℕ Unpicked) (roles state page : List ℕ) → (answer_numbers (concluded choice rank n l list m roles state page).answer).rank ≡ rank
   unfolding concluded answer_numbers
-  concluded-rank Few roles state page = refl
-  concluded-rank Tie roles state page = refl
-  concluded-rank (Picked t) roles state page = unfold settled in settled-rank (solve_answer n l list roles state page) (solve_slots (solve_answer n l list roles state page) state) (solve_page (solve_answer n l list roles state page) n l list roles page)
+  concluded-rank (Err Few) roles state page = refl
+  concluded-rank (Err Tie) roles state page = refl
+  concluded-rank (Ok t) roles state page = unfold settled in settled-rank (solve_answer n l list roles state page) (solve_slots (solve_answer n l list roles state page) state) (solve_page (solve_answer n l list roles state page) n l list roles page)
 
 module _ (rank n l : ℕ) (list : List ℕ) (m : ℕ) (state roles page : List ℕ) where
   pub finished-rank : (answer_numbers (finished n l list m rank state roles page).answer).rank ≡ rank

@@ -10,7 +10,7 @@ use lib.ListN.{length, length-map}
 use borrow.Author.Tests.{le-leb, lt-leb}
 use Rattle.space.specs.Lists.{Below}
 use Rattle.space.proofs.Lists.{map_both}
-use Rattle.octets.specs.Octets.{flat, over}
+use Rattle.octets.specs.Octets.{over}
 use Rattle.doubles.specs.Doubles.{pairs_in}
 use Rattle.doubles.proofs.Doubles.{length_pairs, pairs_lt}
 use Rattle.places.specs.Places.{given_by}
@@ -20,11 +20,12 @@ use Rattle.reading.specs.Marks.{by_arrival, kept_arrivals, places_given, uses_ma
 use Rattle.reading.proofs.Pick.{length-uses}
 use Rattle.reading.proofs.Spread.{get_or_mapped}
 use Rattle.reading.proofs.KeptPlaces.{length-places_given}
-use Rattle.choose.specs.declared.Choice.{Choice}
-use Rattle.choose.specs.declared.Choice.TheVariants.{Few, Tie, Picked}
+use Rattle.std.specs.Prelude.{Result, Ok, Err}
+use Rattle.choose.specs.declared.Unpicked.{Unpicked}
+use Rattle.choose.specs.declared.Unpicked.TheVariants.{Few, Tie}
 use Rattle.choose.specs.Pick.{none_picked, choice_of}
 use Rattle.choose.proofs.Chosen.{choice_says}
-use Rattle.marks.specs.Mark.{not_kept, uses_of, uses_marked, uses_after, pairs_after}
+use Rattle.marks.specs.Mark.{not_kept, uses_of, uses_marked, uses_after_in}
 use Rattle.roles.specs.Role.{least_marked, role_by, role, role_of, roles_marked, roles_after}
 use Rattle.concluding.proofs.Looked.{looked_up}
 
@@ -57,32 +58,28 @@ module _ (l : ℕ) (entries order places counts : List ℕ) (told : pairs_in pla
   roles-plain n b = roles_looked none_picked ∙ ap (by_arrival 0 (length entries) (kept_arrivals l entries order)) (none_picked_lem _ (uses rows) (rw counted at (pairs_lt counts b)))
 
   -- "2 picked"
-  roles-telling : (n t : ℕ) → Picked t ≡ choice_of n (uses rows) → roles_marked t places counts ≡ roles_marks telling n l entries order
+  roles-telling : (n t : ℕ) → Ok t ≡ choice_of n (uses rows) → roles_marked t places counts ≡ roles_marks telling n l entries order
   unfolding roles_marks role
   roles-telling n t e =
-      roles_looked t ∙ rw (choice_says n rows (Picked t) e).2 (rw (map_both telling (leb t) (λ u. cond (leb t u) 2 1) (λ u. refl) (uses rows)))
+      roles_looked t ∙ rw (choice_says n rows (Ok t) e).2 (rw (map_both telling (leb t) (λ u. cond (leb t u) 2 1) (λ u. refl) (uses rows)))
 
-  roles-marked : (n : ℕ) (choice : Choice) → choice ≡ choice_of n (uses rows) → Below 256 counts
+  roles-marked : (n : ℕ) (choice : Result ℕ Unpicked) → choice ≡ choice_of n (uses rows) → Below 256 counts
       → roles_marked (least_marked choice) places counts ≡ roles_marks (role_by choice) n l entries order
   unfolding least_marked
-  roles-marked n Few e b = roles-plain n b
-  roles-marked n Tie e b = roles-plain n b
-  roles-marked n (Picked least) e b = roles-telling n least e
+  roles-marked n (Err Few) e b = roles-plain n b
+  roles-marked n (Err Tie) e b = roles-plain n b
+  roles-marked n (Ok least) e b = roles-telling n least e
 
   -- ---- what the functions leave, where there is room for each row
 
   each_row : length places / 2 ≡ length entries
   each_row = sym (length_pairs places) ∙ ap length told ∙ length-places_given l entries order
 
-  pub uses-after : (uses₀ : List ℕ) → length entries ≤ length uses₀ → uses_after places counts uses₀ ≡ over (uses_marks l entries order) uses₀
-  unfolding uses_after
-  uses-after uses₀ h = rw (le-leb (length places / 2) (length uses₀) (omega (arith, each_row)), uses-marked)
+  pub uses-after-in : {T : Type 0} (room_in : ℕ → ℕ) (written : List ℕ → List T → List T) (lent : List T) → length entries ≤ room_in (length lent)
+      → uses_after_in room_in written places counts lent ≡ written (uses_marks l entries order) lent
+  uses-after-in room_in written lent h = rw (le-leb (length places / 2) (room_in (length lent)) (omega (arith, each_row)), uses-marked)
 
-  pub pairs-after : (uses₀ : List ℕ) → length entries ≤ length uses₀ / 2 → pairs_after places counts uses₀ ≡ over (flat 2 (uses_marks l entries order)) uses₀
-  unfolding pairs_after
-  pairs-after uses₀ h = rw (le-leb (length places / 2) (length uses₀ / 2) (omega (arith, each_row)), uses-marked)
-
-  pub roles-after : (n : ℕ) (choice : Choice) → choice ≡ choice_of n (uses rows) → Below 256 counts → (roles₀ : List ℕ) → length entries ≤ length roles₀
+  pub roles-after : (n : ℕ) (choice : Result ℕ Unpicked) → choice ≡ choice_of n (uses rows) → Below 256 counts → (roles₀ : List ℕ) → length entries ≤ length roles₀
       → roles_after choice places counts roles₀ ≡ over (roles_marks (role_by choice) n l entries order) roles₀
   unfolding roles_after
   roles-after n choice e b roles₀ h = rw (le-leb (length places / 2) (length roles₀) (omega (arith, each_row)), roles-marked n choice e b)

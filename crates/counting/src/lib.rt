@@ -17,20 +17,15 @@ fn count_row(state: &mut [u8], tail: &[u8], arrival: Arrival, rank: usize)
 }
 
 // Counts a use of each of the rows kept so far that the tail names, and gives the arrival no kept place. Nothing is written where they do not fit.
+#[tactic(auto, unfolding(crate::specs::Counting::counted_state, crate::specs::Counting::tallies, tally::specs::Tally::most_kept, tally::specs::Tally::tail_bytes, places::specs::Places::most_rows, state::specs::Layout::state_bytes))]
 pub fn count(state: &mut [u8], tail: &[u8], arrival: Arrival, rank: usize)
     ensures { state.new ≡ counted_state tail.now arrival.0 rank state.old }
 {
-    if tail.len() != tally::TAIL {
-        return;
+    if tail.len() == tally::TAIL
+        && arrival.0 < places::MOST_ROWS
+        && rank <= tally::MOST_KEPT
+        && state::BYTES <= state.len()
+    {
+        count_row(state, tail, arrival, rank);
     }
-    if places::MOST_ROWS <= arrival.0 {
-        return;
-    }
-    if tally::MOST_KEPT < rank {
-        return;
-    }
-    if state.len() < state::BYTES {
-        return;
-    }
-    count_row(state, tail, arrival, rank);
 }

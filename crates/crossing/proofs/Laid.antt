@@ -14,7 +14,7 @@ use Rattle.octets.proofs.Runs.{flat_append}
 use Rattle.octets.proofs.Lay.{length-lay}
 use Rattle.rows.specs.Rows.{shape, list_row_bytes}
 use Rattle.frame.specs.declared.Frame.TheVariants as frames
-use Rattle.laying.specs.declared.Laid.TheVariants as laids
+use Rattle.std.proofs.Common.{Ok}
 use Rattle.frame.specs.Reading.{reading}
 use Rattle.laying.specs.Laying.{laid, number_of, list_after, frame_entry}
 use Rattle.laying.proofs.Laying.{laid-placing, placing-row}
@@ -75,7 +75,7 @@ module _ (number n l : ℕ) where
     unfolding offered
     own-laid frame x o entries s h less = rw placed (rw o.entry (unfold list_after number_of in refl))
       where
-        placed : laid frame number n l s.rows s.list ≡ laids.Row
+        placed : laid frame number n l s.rows s.list ≡ Ok tt
         placed = laid-placing frame number n l s.rows s.list shaped number n l o.seed o.reads refl refl refl ∙ placing-row l s.rows s.list (omega (arith, h.many)) (next-inside l total entries s h less)
 
     own-holds : (frame : List ℕ) (x : ℕ) → Own frame x → (entries : List ℕ) (s : Held) → Holds l total entries s → length entries < total → Holds l total (entries ++ (x ∷ [])) (offered number n l frame s)

@@ -15,8 +15,9 @@ use Rattle.rows.specs.Bytes.{row_of, entry_of}
 use Rattle.rows.proofs.Written.{row_of-agrees}
 use Rattle.rows.proofs.Shape.{shape_range}
 use Rattle.draw.specs.Draw.{constraint}
-use Rattle.writing.specs.declared.Written.{Written}
-use Rattle.writing.specs.declared.Written.TheVariants.{Done, Shape}
+use Rattle.std.proofs.Common.{Result, Ok, Err}
+use Rattle.writing.specs.declared.Refusal.{Refusal}
+use Rattle.writing.specs.declared.Refusal.TheVariants.{Shape}
 use Rattle.frame.specs.declared.Frame.TheVariants as frames
 use Rattle.frame.specs.Layout.{frame_length}
 use Rattle.frame.specs.Reading.{reading}
@@ -32,12 +33,12 @@ use Rattle.crossing.specs.Sent.{sent}
 
 -- ---- what was checked where a frame was written
 
-abbrev is_done : Written → Bool
+abbrev is_done : Result Unit Refusal → Bool
 is_done a = eqb (number_of a) 0
 
-pub written-shaped : (n l : ℕ) (page room : List ℕ) → write_answer n l page room ≡ Done → shape n l ≡ true
+pub written-shaped : (n l : ℕ) (page room : List ℕ) → write_answer n l page room ≡ Ok tt → shape n l ≡ true
 unfolding write_answer number_of
-written-shaped n l page room e = not-false (shape n l) (passes is_done (not (shape n l)) Shape _ refl (ap is_done e)).0
+written-shaped n l page room e = not-false (shape n l) (passes is_done (not (shape n l)) (Err Shape) _ refl (ap is_done e)).0
 
 -- ---- a frame made of a page
 
@@ -60,7 +61,7 @@ module _ (p n l seed : ℕ) (page : List ℕ) (small : p < 2 ^ 32) (seeded : see
 
 -- ---- what writing leaves in the room
 
-module _ (p n l seed : ℕ) (page room : List ℕ) (small : p < 2 ^ 32) (seeded : seed < 2 ^ 32) (done : write_answer n l page room ≡ Done) where
+module _ (p n l seed : ℕ) (page room : List ℕ) (small : p < 2 ^ 32) (seeded : seed < 2 ^ 32) (done : write_answer n l page room ≡ Ok tt) where
   s : shape n l ≡ true
   s = written-shaped n l page room done
 

@@ -1,11 +1,14 @@
 -- Two bytes of a run as one number, read and written.
 -- Assumes nothing.
-use mathlib.Core.Path.{◌≡◌, refl, ap, ◌∙◌}
-use Prim.Native.Nat.{ℕ, zero, suc, ◌+◌, ◌*◌, ◌/◌, ◌%◌, ◌≤◌, ◌<◌}
+use mathlib.Core.Path.{◌≡◌, refl, sym, ap, ◌∙◌}
+use Prim.Native.Nat.{ℕ, zero, suc, ◌+◌, ◌*◌, ◌/◌, ◌≤◌, ◌<◌}
 use native.Mathlib.Omega.{arith}
 use mathlib.Core.List.{List, [], ◌∷◌}
-use lib.ListN.{length, take, drop, get_or, set, length-drop}
-use lib.Seq.{get_or-drop}
+use lib.ListN.{length, take, drop, get_or, length-drop}
+use lib.Seq.{get_or-drop, drop-drop}
+use Rattle.std.specs.Simd.{first_chunks}
+use Rattle.std.proofs.Common.{w16}
+use Rattle.std.specs.Int.{to_be_bytes, from_be_bytes}
 use borrow.Author.Tests.{lt-ltb}
 use borrow.Rule.Slice.PartMut.{put_mid}
 use Rattle.space.specs.Lists.{Below}
@@ -42,6 +45,31 @@ pair_at_lem bs i h =
     get_or-numbers 2 (length bs / 2) bs i h ∙ rw same (first-pair (drop (2 * i) bs) (omega (arith, length-drop (2 * i) bs))
     ∙ rw (get_or-drop (2 * i) bs 0 0, first, get_or-drop (2 * i) bs 1 0))
 
+-- a number is that of its two bytes, as std reads and writes it
+pub pair_number : (v : List ℕ) → length v ≡ 2 → from_be_bytes w16 v ≡ number v
+unfolding number
+pair_number [] h = absurd (omega arith)
+pair_number (x ∷ []) h = absurd (omega arith)
+pair_number (x ∷ y ∷ []) h = omega arith
+pair_number (x ∷ y ∷ z ∷ v) h = absurd (omega arith)
+
+pub pair-bytes : (x : ℕ) → to_be_bytes w16 x ≡ bytes 2 x
+unfolding bytes
+pair-bytes x = let low : x / 1 ≡ x = omega arith in rw low
+
+-- the bytes at place i
+get_or-chunks : (m : ℕ) (bs : List ℕ) (i : ℕ) (d : List ℕ) → i < m → get_or (first_chunks 2 m bs) i d ≡ take 2 (drop (i * 2) bs)
+get_or-chunks zero bs i d h = absurd (omega arith)
+get_or-chunks (suc m) bs zero d h = refl
+get_or-chunks (suc m) bs (suc i) d h =
+    get_or-chunks m (drop 2 bs) i d (omega arith) ∙ ap (take 2) (drop-drop (i * 2) 2 bs ∙ ap (λ (k : ℕ). drop k bs) (omega arith))
+
+pub pair_chunk : (bs : List ℕ) (i : ℕ) (v : List ℕ) → i < length bs / 2 → v ≡ get_or (first_chunks 2 (length bs / 2) bs) i v → from_be_bytes w16 v ≡ pair_at i bs
+pair_chunk bs i v h e =
+    let part : v ≡ take 2 (drop (i * 2) bs) = e ∙ get_or-chunks (length bs / 2) bs i v h in
+    let size : length v ≡ 2 = ap length part ∙ length_part 2 (i * 2) bs (omega arith) in
+    pair_number v size ∙ ap number part ∙ sym (get_or-numbers 2 (length bs / 2) bs i h)
+
 -- past the end
 pub pair_past : (bs : List ℕ) (i : ℕ) → length bs / 2 ≤ i → pair_at i bs ≡ 0
 pair_past bs i h = get_d_past (pairs_in bs) i 0 (omega (arith, length_pairs bs))
@@ -50,18 +78,6 @@ pair_past bs i h = get_d_past (pairs_in bs) i 0 (omega (arith, length_pairs bs))
     get_d_past [] j d l = refl
     get_d_past (x ∷ xs) zero d l = absurd (omega arith)
     get_d_past (x ∷ xs) (suc j) d l = get_d_past xs j d (omega arith)
-
-pub pair-laid : (bs : List ℕ) (at x : ℕ) → at + 2 ≤ length bs → x < 65536 → set (set bs at (x / 256)) (at + 1) (x % 256) ≡ lay at (bytes 2 x) bs
-unfolding bytes lay
-pair-laid [] at x h l = absurd (omega arith)
-pair-laid (y ∷ []) zero x h l = absurd (omega arith)
-pair-laid (y ∷ z ∷ bs) zero x h l =
-    let high : x / 256 % 256 ≡ x / 256 = omega arith in
-    let low : x / 1 % 256 ≡ x % 256 = omega arith in
-    rw (high, low)
-pair-laid (y ∷ bs) (suc at) x h l =
-    let e : suc at + 1 ≡ suc (at + 1) = omega arith in
-    rw e (ap (λ (t : List ℕ). y ∷ t) (pair-laid bs at x (omega arith) l))
 
 -- a number of two bytes written in a part that is then back
 pub pair-part : (a k i x : ℕ) (old new : List ℕ) → i < k / 2 → a + k ≤ length old → new ≡ put_pair i x (take k (drop a old)) → put_mid a k old new ≡ lay (a + 2 * i) (bytes 2 x) old

@@ -8,22 +8,18 @@ ghost use Rattle.doubles.specs.Doubles.{pair_at, put_pair};
 pub fn pair(from: &[u8], i: usize) -> u16
     ensures { result ≡ pair_at i from.now }
 {
-    if from.len() / 2 <= i {
-        return 0;
+    match from.as_chunks::<2>().0.get(i) {
+        Some(pair) => u16::from_be_bytes(*pair),
+        None => 0,
     }
-    let at = 2 * i;
-    (from[at] as u16) * 256 + (from[at + 1] as u16)
 }
 
 // Writes the number at place i in a run of numbers of two bytes; past the end nothing is written.
 pub fn put_pair(into: &mut [u8], i: usize, x: u16)
     ensures { into.new ≡ put_pair i x into.old }
 {
-    if into.len() / 2 <= i {
-        return;
+    if i < into.len() / 2 {
+        let at = 2 * i;
+        into[at..at + 2].copy_from_slice(&x.to_be_bytes());
     }
-    let at = 2 * i;
-    let next = at + 1;
-    into[at] = (x / 256) as u8;
-    into[next] = (x % 256) as u8;
 }

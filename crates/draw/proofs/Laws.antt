@@ -1,10 +1,8 @@
 -- What the definitions of a draw mean: sums, differences and rotations; that a drawn constraint names at least one symbol and none
 -- beyond the page; which n are refused; and that the contract allows one answer. Assumes nothing.
-use Rattle.std.proofs.Common.{◌≡◌, ℕ, ◌+◌, ◌-◌, ◌*◌, ◌%◌, ◌^◌, ◌<◌, ◌≤◌, Bool, true, false, cond, eqb, ◌⊎◌, sym, refl, ◌∙◌, ⊎_elim, mod-lt, pos_of_ne-zero, arith, pow_pos, le-leb}
+use Rattle.std.proofs.Common.{◌≡◌, ℕ, ◌+◌, ◌-◌, ◌*◌, ◌%◌, ◌^◌, ◌<◌, ◌≤◌, Bool, true, false, cond, eqb, Option, Some, None, ◌⊎◌, sym, refl, ◌∙◌, ⊎_elim, mod-lt, pos_of_ne-zero, arith, pow_pos, le-leb}
 use borrow.Author.Tests.{lt-leb, eqb-false}
 use lib.Pow.{pow-lt, high as high-of, low as low_of}
-use Rattle.draw.specs.declared.Drawn.{Drawn}
-use Rattle.draw.specs.declared.Drawn.TheVariants.{Constraint, Shape}
 use Rattle.draw.specs.Draw.{sum, difference, rot, settled, two_draws, constraint, in_range, drawn, number_of, constraint_of}
 use Rattle.draw.proofs.Shifts.{shl_field}
 use Rattle.draw.proofs.draw.Reads as draw
@@ -53,7 +51,7 @@ module _ (n seed : ℕ) where
 
 -- "n is 1 to 64".
 module _ (n seed : ℕ) (some : 1 ≤ n) (most : n ≤ 64) where
-  pub drawn-inside : drawn n seed ≡ Constraint (constraint n seed)
+  pub drawn-inside : drawn n seed ≡ Some (constraint n seed)
   unfolding drawn in_range
   drawn-inside = rw (le-leb 1 n some, le-leb n 64 most)
 
@@ -63,7 +61,7 @@ module _ (n seed : ℕ) (some : 1 ≤ n) (most : n ≤ 64) where
 
 -- "Drawing on its own with n out of range is refused as 1, constraint 0."
 module _ (n seed : ℕ) (out : (n < 1) ⊎ (64 < n)) where
-  pub drawn-outside : drawn n seed ≡ Shape
+  pub drawn-outside : drawn n seed ≡ None
   unfolding drawn in_range
   drawn-outside = ⊎_elim (λ h. rw (lt-leb 1 n h)) (λ h. rw (le-leb 1 n (omega arith), lt-leb n 64 h)) out
 
@@ -74,8 +72,8 @@ module _ (n seed : ℕ) (out : (n < 1) ⊎ (64 < n)) where
 -- ---- uniqueness
 
 -- An answer that the contract of `draw` allows.
-abbrev pub Allowed : ℕ → ℕ → Drawn → Type 0
+abbrev pub Allowed : ℕ → ℕ → Option ℕ → Type 0
 Allowed n seed r = draw.Post tt (n, (seed, tt)) r (n, (seed, tt))
 
-pub draw_unique : (n seed : ℕ) (r s : Drawn) → Allowed n seed r → Allowed n seed s → r ≡ s
+pub draw_unique : (n seed : ℕ) (r s : Option ℕ) → Allowed n seed r → Allowed n seed s → r ≡ s
 draw_unique n seed r s p q = p ∙ sym q

@@ -1,8 +1,6 @@
 -- How a constraint is drawn from a seed. Document 01, "Drawing a constraint from a seed"; n is the number of symbols.
-use Rattle.std.specs.Prelude.{ℕ, zero, suc, ◌+◌, ◌-◌, ◌*◌, ◌/◌, ◌%◌, ◌^◌, Bool, cond, ◌&&◌, ◌==◌, bit_xor, nat_le}
+use Rattle.std.specs.Prelude.{ℕ, zero, suc, ◌+◌, ◌-◌, ◌*◌, ◌/◌, ◌%◌, ◌^◌, Bool, cond, ◌&&◌, ◌==◌, Option, Some, None, bit_xor, nat_le}
 use Rattle.draw.specs.declared.Generator.{Generator}
-use Rattle.draw.specs.declared.Drawn.{Drawn}
-use Rattle.draw.specs.declared.Drawn.TheVariants.{Constraint, Shape}
 
 -- ---- the generator
 
@@ -54,14 +52,14 @@ unfoldable pub in_range : ℕ → Bool
 in_range n = nat_le 1 n && nat_le n 64
 
 -- "Drawing on its own with n out of range is refused".
-unfoldable pub drawn : ℕ → ℕ → Drawn
-drawn n seed = cond (in_range n) (Constraint (constraint n seed)) Shape
+unfoldable pub drawn : ℕ → ℕ → Option ℕ
+drawn n seed = cond (in_range n) (Some (constraint n seed)) None
 
 -- Document 01's number and constraint for each answer: "refused as 1, constraint 0".
-unfoldable pub number_of : Drawn → ℕ
-number_of (Constraint c) = 0
-number_of Shape = 1
+unfoldable pub number_of : Option ℕ → ℕ
+number_of (Some c) = 0
+number_of None = 1
 
-unfoldable pub constraint_of : Drawn → ℕ
-constraint_of (Constraint c) = c
-constraint_of Shape = 0
+unfoldable pub constraint_of : Option ℕ → ℕ
+constraint_of (Some c) = c
+constraint_of None = 0

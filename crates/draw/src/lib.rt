@@ -4,14 +4,7 @@
 ghost use Rattle.std.specs.Prelude.{◌≡◌, ◌<◌, ◌≤◌};
 ghost use Rattle.draw.specs.Draw as spec;
 
-// The answer of a draw; specs/Draw.antt gives document 01's number and constraint for each case.
-#[derive(Clone, Copy)]
-pub enum Drawn {
-    Constraint(u64),
-    Shape,
-}
-
-// The generator's state.
+// The generator's state. Its form is document 01's: it steps by wrapping add and subtract on u32, and rot is a helper of shifts.
 #[derive(Clone, Copy)]
 struct Generator {
     a: u32,
@@ -24,13 +17,15 @@ struct Generator {
 const THROWN_AWAY: usize = 20;
 
 fn rot(x: u32, k: u32) -> u32
-    requires { (0 < k) × (k < 32) }
+    requires some { 0 < k }
+    requires narrow { k < 32 }
     ensures { result ≡ spec.rot x k }
 {
     (x << k) | (x >> (32 - k))
 }
 
 impl Generator {
+    #[tactic(auto, unfolding(crate::specs::Draw::start))]
     fn start(seed: u32) -> Self
         ensures { result ≡ spec.start seed }
     {
@@ -42,6 +37,7 @@ impl Generator {
         }
     }
 
+    #[tactic(auto, using(crate::proofs::Laws::difference_only), unfolding(crate::specs::Draw::step, crate::specs::Draw::sum))]
     fn step(self) -> Self
         ensures { result ≡ spec.step self }
     {
@@ -54,6 +50,7 @@ impl Generator {
     }
 
     // The generator of a seed, ready to draw.
+    #[tactic(auto, unfolding(crate::specs::Draw::steps, crate::specs::Draw::settled))]
     fn settled(seed: u32) -> Self
         ensures { result ≡ spec.settled seed }
     {
@@ -65,6 +62,7 @@ impl Generator {
     }
 
     // "The next two draws are the high and low half of a 64-bit number".
+    #[tactic(auto, using(crate::proofs::Shifts::shl_or), unfolding(crate::specs::Draw::two_draws))]
     fn two_draws(self) -> u64
         ensures { result ≡ spec.two_draws self }
     {
@@ -74,8 +72,10 @@ impl Generator {
     }
 }
 
+#[tactic(auto, using(crate::proofs::Shifts::shl_one), unfolding(crate::specs::Draw::constraint))]
 fn constraint(n: u8, seed: u32) -> u64
-    requires { (1 ≤ n) × (n ≤ 64) }
+    requires n_low { 1 ≤ n }
+    requires n_high { n ≤ 64 }
     ensures { result ≡ spec.constraint n seed }
 {
     let low = bits::low(Generator::settled(seed).two_draws(), n as usize);
@@ -86,12 +86,13 @@ fn constraint(n: u8, seed: u32) -> u64
     }
 }
 
-// "Drawing on its own with n out of range is refused".
-pub fn draw(n: u8, seed: u32) -> Drawn
+// "Drawing on its own with n out of range is refused": None. specs/Draw.antt gives document 01's number and constraint for each answer.
+#[tactic(auto, unfolding(crate::specs::Draw::drawn, crate::specs::Draw::in_range))]
+pub fn draw(n: u8, seed: u32) -> Option<u64>
     ensures { result ≡ spec.drawn n seed }
 {
     if n < 1 || 64 < n {
-        return Drawn::Shape;
+        return None;
     }
-    Drawn::Constraint(constraint(n, seed))
+    Some(constraint(n, seed))
 }

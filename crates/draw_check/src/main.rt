@@ -1,14 +1,10 @@
 // Prints draws: on each line a seed and its constraints for n = 1 to 64. The plain program docs/src/bin/draws.rs prints the same.
 #![tactic(auto)]
 
-ghost use Rattle.std.specs.Prelude.{◌≡◌, ◌<◌, ◌≤◌, length};
+ghost use Rattle.std.specs.Prelude.{◌≡◌};
 ghost use Rattle.draw.specs.Draw.{drawn, constraint_of};
 
-use draw::Drawn;
-use std::io;
-
-// A seed's 8 digits, a space and 16 digits for each n, and the line's end.
-const LINE: usize = 8 + 64 * 17 + 1;
+use std::{fmt, io};
 
 const SEEDS: u32 = 104;
 
@@ -21,59 +17,32 @@ fn seed_at(i: u32) -> u32 {
     }
 }
 
+#[tactic(auto, unfolding(draw::specs::Draw::constraint_of))]
 fn constraint(n: u8, seed: u32) -> u64
     ensures { result ≡ constraint_of (drawn n seed) }
 {
-    match draw::draw(n, seed) {
-        Drawn::Constraint(c) => c,
-        Drawn::Shape => 0,
-    }
+    draw::draw(n, seed).unwrap_or(0)
 }
 
-fn digit(d: u64) -> u8
-    requires { d < 16 }
-{
-    if d < 10 {
-        b'0' + d as u8
-    } else {
-        b'a' + (d - 10) as u8
-    }
-}
+// A seed's 8 digits, and a space and 16 digits for each n.
+#[derive(Clone, Copy)]
+struct Draws(u32);
 
-// Puts the last hexadecimal digits of x at the places from `at` to `end`.
-fn spell(x: u64, line: &mut [u8], at: usize, end: usize)
-    requires { end ≤ length line.old }
-{
-    let mut rest = x;
-    let mut i = end;
-    while at < i {
-        i -= 1;
-        line[i] = digit(rest % 16);
-        rest /= 16;
+impl fmt::Display for Draws {
+    fn fmt<W: fmt::Write>(&self, f: &mut fmt::Formatter<W>) -> fmt::Result {
+        let seed = self.0;
+        write!(f, "{seed:08x}")?;
+        for n in 1..=64u8 {
+            let drawn = constraint(n, seed);
+            write!(f, " {drawn:016x}")?;
+        }
+        Ok(())
     }
-}
-
-// Lays the seed and its constraints into a line of spaces.
-fn fill(seed: u32, line: &mut [u8])
-    requires { length line.old ≡ 1097 }
-{
-    spell(seed as u64, line, 0, 8);
-    for n in 1..=64u8 {
-        let end = 8 + 17 * n as usize;
-        spell(constraint(n, seed), line, end - 16, end);
-    }
-}
-
-fn print(rt: &impl Print, seed: u32) -> io::Result<()> {
-    let mut line = [b' '; LINE];
-    line[LINE - 1] = b'\n';
-    fill(seed, &mut line);
-    rt.write_all(&line)
 }
 
 fn main(rt: HostRuntime) -> io::Result<()> {
     for i in 0..SEEDS {
-        print(&rt, seed_at(i))?;
+        rt.println(Draws(seed_at(i)))?;
     }
     Ok(())
 }

@@ -1,3 +1,4 @@
+pub mod Ranks
 pub mod Staying
 pub mod Turning
 pub mod Outcomes

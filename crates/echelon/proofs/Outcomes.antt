@@ -3,11 +3,11 @@
 use mathlib.Core.Path.{◌≡◌, refl}
 use mathlib.Core.List.{List}
 use mathlib.Core.Bool.{true, false, ◌&&◌}
-use Prim.Native.Nat.{ℕ, ◌≤◌, ◌<◌}
+use Prim.Native.Nat.{ℕ}
 use lib.Dec.{leb}
 use lib.ListN.{length}
-use borrow.Author.Tests.{le-leb, lt-leb, leb-true}
-use Rattle.echelon.specs.declared.Eliminated.TheVariants.{Rank, Misfit}
+use borrow.Author.Tests.{le-leb, leb-true}
+use Rattle.std.specs.Prelude.{Some, None}
 use Rattle.state.specs.Layout.{state_bytes, order_in}
 use Rattle.state.specs.Written.{emptied}
 use Rattle.echelon.specs.Eliminating.{Elimination, absorb_in, Eliminates, eliminates, elimination}
@@ -25,24 +25,6 @@ pub eliminates_when : (l m room : ℕ) → Eliminates l m room → eliminates l 
 unfolding eliminates
 eliminates_when l m room E = rw (le-leb 1 l E.some) (rw (le-leb l 32 E.most) (rw (le-leb m 512 E.many) (le-leb state_bytes room E.whole)))
 
--- the tests of the code, in its order
-module _ (l m room : ℕ) where
-  pub no_payload : l < 1 → false ≡ eliminates l m room
-  unfolding eliminates
-  no_payload h = rw (lt-leb 1 l h)
-
-  pub too_broad : 1 ≤ l → 32 < l → false ≡ eliminates l m room
-  unfolding eliminates
-  too_broad a h = rw (le-leb 1 l a) (rw (lt-leb l 32 h))
-
-  pub too_long_list : 1 ≤ l → l ≤ 32 → 512 < m → false ≡ eliminates l m room
-  unfolding eliminates
-  too_long_list a b h = rw (le-leb 1 l a) (rw (le-leb l 32 b) (rw (lt-leb m 512 h)))
-
-  pub eliminates-room : 1 ≤ l → l ≤ 32 → m ≤ 512 → leb state_bytes room ≡ eliminates l m room
-  unfolding eliminates
-  eliminates-room a b h = rw (le-leb 1 l a) (rw (le-leb l 32 b) (rw (le-leb m 512 h)))
-
 -- ---- the outcome
 
 module _ (l : ℕ) (list : List ℕ) (taken : ℕ) (state : List ℕ) where
@@ -50,10 +32,10 @@ module _ (l : ℕ) (list : List ℕ) (taken : ℕ) (state : List ℕ) where
   whole = absorb_in l list (order_in taken state) (record { state = emptied state; rank = 0 })
 
   pub eliminated_so : eliminates l taken (length state) ≡ true
-      → (Rank whole.rank ≡ (elimination l list taken state).answer) × (whole.state ≡ (elimination l list taken state).state)
+      → (Some whole.rank ≡ (elimination l list taken state).answer) × (whole.state ≡ (elimination l list taken state).state)
   unfolding elimination
   eliminated_so e = rw e (refl, refl)
 
-  pub eliminated_not : eliminates l taken (length state) ≡ false → (Misfit ≡ (elimination l list taken state).answer) × (state ≡ (elimination l list taken state).state)
+  pub eliminated_not : eliminates l taken (length state) ≡ false → (None ≡ (elimination l list taken state).answer) × (state ≡ (elimination l list taken state).state)
   unfolding elimination
   eliminated_not e = rw e (refl, refl)

@@ -1,5 +1,5 @@
 -- The rows of a list taken in, one after the other, in an order of arrivals: `eliminate` of the code.
-use Rattle.std.specs.Prelude.{ℕ, suc, ◌≤◌, Bool, cond, ◌&&◌, List, [], ◌∷◌, leb, length}
+use Rattle.std.specs.Prelude.{ℕ, suc, ◌≤◌, Bool, cond, ◌&&◌, List, [], ◌∷◌, leb, length, Option, Some, None}
 use Rattle.places.specs.Places.{most_rows}
 use Rattle.octets.specs.Octets.{number}
 use Rattle.lists.specs.Lists.{row_at}
@@ -7,8 +7,6 @@ use Rattle.state.specs.Layout.{state_bytes, order_in}
 use Rattle.state.specs.Written.{emptied}
 use Rattle.absorb.specs.declared.Absorbed.{Absorbed}
 use Rattle.absorb.specs.declared.Absorbed.TheVariants as absorbed
-use Rattle.echelon.specs.declared.Eliminated.{Eliminated}
-use Rattle.echelon.specs.declared.Eliminated.TheVariants.{Rank, Misfit}
 use Rattle.absorb.specs.Absorbing.{absorption}
 
 -- The state, and the number of rows kept.
@@ -43,13 +41,13 @@ pub record Eliminates (l taken room : ℕ) : Type 0 where
 unfoldable pub eliminates : ℕ → ℕ → ℕ → Bool
 eliminates l taken room = (leb 1 l && leb l 32) && (leb taken most_rows && leb state_bytes room)
 
--- The answer, and the state afterwards.
+-- The answer, how many rows were kept, and the state afterwards.
 pub record Eliminating : Type 0 where
-  pub answer : Eliminated
+  pub answer : Option ℕ
   pub state : List ℕ
 
 -- Of the first so many arrivals in the state's order; nothing is written where they do not fit.
 unfoldable pub elimination : ℕ → List ℕ → ℕ → List ℕ → Eliminating
 elimination l list taken state =
     let all = absorb_in l list (order_in taken state) (record { state = emptied state; rank = 0 }) in
-    cond (eliminates l taken (length state)) (record { answer = Rank all.rank; state = all.state }) (record { answer = Misfit; state = state })
+    cond (eliminates l taken (length state)) (record { answer = Some all.rank; state = all.state }) (record { answer = None; state = state })

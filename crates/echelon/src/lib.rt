@@ -1,7 +1,7 @@
 // Algorithm 2 over bytes: which rows of a list are kept, and how often each is used. Rows are taken in the order that stands in the state.
 #![tactic(auto)]
 
-ghost use Rattle.std.specs.Prelude.{◌≡◌, ◌<◌, ◌≤◌, length};
+ghost use Rattle.std.specs.Prelude.{◌≡◌, ◌%◌, ◌^◌, ◌<◌, ◌≤◌, length};
 ghost use Rattle.places.specs.Places.{most_rows};
 ghost use Rattle.state.specs.Layout.{state_bytes, order_in};
 ghost use Rattle.echelon.specs.Eliminating.{rank_after, one_more, absorb_in, eliminates, elimination};
@@ -9,26 +9,20 @@ ghost use Rattle.echelon.specs.Eliminating.{rank_after, one_more, absorb_in, eli
 use absorb::Absorbed;
 use places::Arrival;
 
-// What came of eliminating a list: how many rows were kept.
-#[derive(Clone, Copy)]
-pub enum Eliminated {
-    Rank(usize),
-    Misfit,
-}
-
-// The number of kept rows after a row.
-fn ranked(a: Absorbed, r: usize) -> usize
-    requires { r < 512 }
-    ensures { result ≡ rank_after a r }
+// The number of kept rows after a row; behind the largest number comes 0.
+#[tactic(auto, unfolding(crate::specs::Eliminating::rank_after))]
+pub fn ranked(absorbed: Absorbed, rank: usize) -> usize
+    ensures { result ≡ rank_after absorbed rank % 2 ^ 64 }
 {
-    match a {
-        Absorbed::Kept => r + 1,
-        Absorbed::Other => r,
-        Absorbed::Misfit => r,
+    match absorbed {
+        Absorbed::Kept => rank.wrapping_add(1),
+        Absorbed::Other => rank,
+        Absorbed::Misfit => rank,
     }
 }
 
 // The row of one arrival more: gives how many rows are kept then.
+#[tactic(auto, using(crate::proofs::Ranks::ranked_small), unfolding(crate::specs::Eliminating::one_more))]
 fn absorb_at(state: &mut [u8], list: &[u8], l: u8, arrival: Arrival, rank: usize) -> usize
     requires { rank < most_rows }
     ensures rank { result ≡ (one_more l list.now arrival.0 (record { state = state.entry.now; rank = rank })).rank }
@@ -38,9 +32,11 @@ fn absorb_at(state: &mut [u8], list: &[u8], l: u8, arrival: Arrival, rank: usize
     ranked(absorbed, rank)
 }
 
-// Takes in the rows of the first so many arrivals in the order, one after the other, and gives how many were kept.
+// Takes in the rows of the first so many arrivals in the order, one after the other, and gives how many were kept. That the state is whole is a clause, as in
+// `keeping`.
 fn absorb_each(state: &mut [u8], list: &[u8], l: u8, taken: usize) -> usize
-    requires { (taken ≤ most_rows) × (state_bytes ≤ length state.old) }
+    requires few { taken ≤ most_rows }
+    requires whole { state_bytes ≤ length state.old }
     ensures rank { result ≡ (absorb_in l list.now (order_in taken state.entry.now) (record { state = state.entry.now; rank = 0 })).rank }
     ensures state { state.exit.now ≡ (absorb_in l list.now (order_in taken state.entry.now) (record { state = state.entry.now; rank = 0 })).state }
 {
@@ -53,31 +49,23 @@ fn absorb_each(state: &mut [u8], list: &[u8], l: u8, taken: usize) -> usize
 }
 
 // Whether so many rows with payloads of l bytes fit a state of so many bytes.
+#[tactic(auto, unfolding(crate::specs::Eliminating::eliminates, state::specs::Layout::state_bytes))]
 fn eliminating(l: u8, taken: usize, room: usize) -> bool
     ensures { result ≡ eliminates l taken room }
 {
-    if l < 1 {
-        return false;
-    }
-    if 32 < l {
-        return false;
-    }
-    if places::MOST_ROWS < taken {
-        return false;
-    }
-    state::BYTES <= room
+    1 <= l && l <= 32 && taken <= places::MOST_ROWS && state::BYTES <= room
 }
 
 // Eliminates the rows of a list whose arrivals are the first so many in the state's order, as they stand there, in a state made empty first but for
-// the order, and gives their rank.
-pub fn eliminate(state: &mut [u8], list: &[u8], l: u8, taken: usize) -> Eliminated
+// the order, and gives their rank; where they do not fit there is none, and nothing is written.
+#[tactic(auto, unfolding(crate::specs::Eliminating::elimination))]
+pub fn eliminate(state: &mut [u8], list: &[u8], l: u8, taken: usize) -> Option<usize>
     ensures answer { result ≡ (elimination l list.now taken state.old).answer }
     ensures state { state.new ≡ (elimination l list.now taken state.old).state }
 {
-    if eliminating(l, taken, state.len()) {
-        state::clear(state);
-        Eliminated::Rank(absorb_each(state, list, l, taken))
-    } else {
-        Eliminated::Misfit
+    if !eliminating(l, taken, state.len()) {
+        return None;
     }
+    state::clear(state);
+    Some(absorb_each(state, list, l, taken))
 }

@@ -19,13 +19,15 @@ pub fn pass(work: &mut [u8], slots: &[u8]) -> Reduced
     ensures answer { result ≡ reduce_answer 8 slots.now work.old }
     ensures left { work.new ≡ reduce_work 8 slots.now work.old }
 {
-    let heads = octets::least(HEADS, slots.len());
+    let heads = HEADS.min(slots.len());
     slots::reduce(work, slots, &slots[heads..], 8)
 }
 
 // Stores a vector in slot t, and its first eight bytes where reducing looks for them.
 fn store(slots: &mut [u8], t: usize, vector: &[u8])
-    requires { (t < 64) × (length slots.old ≡ slot_bytes) × (length vector.now ≡ 80) }
+    requires slot { t < 64 }
+    requires slots { length slots.old ≡ slot_bytes }
+    requires wide { length vector.now ≡ 80 }
     ensures { slots.new ≡ stored t vector.now slots.old }
 {
     let at = t * VECTOR;
@@ -38,7 +40,8 @@ fn store(slots: &mut [u8], t: usize, vector: &[u8])
 
 // A vector goes into the slot where its pass stops; whether there was one.
 fn put_in(slots: &mut [u8], work: &mut [u8]) -> bool
-    requires { (length slots.old ≡ slot_bytes) × (length work.old ≡ 80) }
+    requires slots { length slots.old ≡ slot_bytes }
+    requires wide { length work.old ≡ 80 }
     ensures answer { result ≡ goes_in slots.old work.old }
     ensures slots { slots.new ≡ slots_with slots.old work.old }
 {
@@ -47,12 +50,12 @@ fn put_in(slots: &mut [u8], work: &mut [u8]) -> bool
             store(slots, t, work);
             true
         }
-        Reduced::Spent => false,
-        Reduced::Misfit => false,
+        Reduced::Spent | Reduced::Misfit => false,
     }
 }
 
 // A row goes into the slot where its pass stops; whether there was one.
+#[tactic(auto, unfolding(crate::specs::Enter::enter_answer, crate::specs::Enter::enter_slots, crate::specs::Enter::slot_bytes, crate::specs::Enter::vector_of))]
 pub fn enter(slots: &mut [u8], row: &[u8]) -> bool
     ensures answer { result ≡ enter_answer slots.old row.now }
     ensures slots { slots.new ≡ enter_slots slots.old row.now }

@@ -1,12 +1,11 @@
--- Parts of a frame: of few bytes as a number, and from a place on.
+-- Parts of a frame: of few bytes as a number.
 -- Assumes nothing.
 use mathlib.Core.Path.{◌≡◌}
-use Prim.Native.Nat.{ℕ, ◌-◌, ◌*◌, ◌%◌, ◌^◌, ◌≤◌}
-use native.Mathlib.Nat.{mod-eq_of_lt, lt_of_lt_of_le, le_of_eq}
+use Prim.Native.Nat.{ℕ, ◌*◌, ◌%◌, ◌^◌, ◌≤◌}
+use native.Mathlib.Nat.{mod-eq_of_lt, lt_of_lt_of_le}
 use native.Mathlib.Omega.{arith}
 use mathlib.Core.List.{List}
-use lib.ListN.{length, take, drop, length-take, length-drop}
-use lib.Seq.{take_all}
+use lib.ListN.{length, take, drop, length-take}
 use lib.Pow.{pow_mono}
 use Rattle.space.specs.Lists.{Below}
 use Rattle.octets.specs.Octets.{number}
@@ -21,7 +20,3 @@ number-part at size w frame b h =
     let narrow : length part ≤ w = simp length-take (omega arith) in
     let below : Below 256 part = (below_parts 256 size (drop at frame) (below_parts 256 at frame b).1).0 in
     mod-eq_of_lt (lt_of_lt_of_le (number_lt part below) (pow_mono (omega arith)))
-
--- the part from a place on
-pub part-rest : (at : ℕ) (frame : List ℕ) → take (length frame - at) (drop at frame) ≡ drop at frame
-part-rest at frame = take_all (length frame - at) (drop at frame) (le_of_eq (length-drop at frame))

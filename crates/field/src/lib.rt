@@ -2,17 +2,16 @@
 #![tactic(auto)]
 
 ghost use Rattle.std.specs.Prelude.{◌≡◌, ◌≤◌, length};
-ghost use Rattle.field.specs.Expected.{field_of, placed, expected};
+ghost use Rattle.field.specs.Expected.{field_of, refused_at, expected};
 
 // In a field: its length stands behind its tag, and its value behind both.
 pub const LENGTH: usize = 1;
 
 pub const MARK: usize = 3;
 
-// What the bytes that remain have in the place of a field.
+// Why the bytes that remain are no whole field, as specs/Expected.antt gives it to the crates above.
 #[derive(Clone, Copy)]
-pub enum Field {
-    Whole,
+pub enum Fault {
     Short,
     WrongTag,
     WrongLength,
@@ -26,54 +25,46 @@ pub enum Refusal {
     WrongLength(usize),
 }
 
-// A whole field, or what refuses the frame.
-#[derive(Clone, Copy)]
-pub enum Found {
-    Whole,
-    Refused(Refusal),
-}
-
 // What remains of the frame is looked at from its first byte on.
-fn look(rest: &[u8], tag: u8, size: u8) -> Field
+#[tactic(auto, unfolding(crate::specs::Expected::field_of))]
+fn look(rest: &[u8], tag: u8, size: u8) -> Result<(), Fault>
     ensures { result ≡ field_of rest.now tag size }
 {
     if rest.len() < MARK {
-        return Field::Short;
+        return Err(Fault::Short);
     }
     if rest[0] != tag {
-        return Field::WrongTag;
+        return Err(Fault::WrongTag);
     }
     if numerals::get(&rest[LENGTH..MARK]) != size as u64 {
-        return Field::WrongLength;
+        return Err(Fault::WrongLength);
     }
     if rest.len() - MARK < size as usize {
-        return Field::Short;
+        return Err(Fault::Short);
     }
-    Field::Whole
+    Ok(())
 }
 
 // Where a frame is refused inside a field: the places of 11, 12 and 13.
-fn at_place(frame: &[u8], at: usize, field: Field) -> Found
+#[tactic(auto, unfolding(crate::specs::Expected::refused_at))]
+fn at_place(frame: &[u8], at: usize, fault: Fault) -> Refusal
     requires { at ≤ length frame.now }
-    ensures { result ≡ placed frame.now at field }
+    ensures { result ≡ refused_at frame.now at fault }
 {
-    let length = at + LENGTH;
-    let end = frame.len();
-    match field {
-        Field::Whole => Found::Whole,
-        Field::Short => Found::Refused(Refusal::Short(end)),
-        Field::WrongTag => Found::Refused(Refusal::WrongTag(at)),
-        Field::WrongLength => Found::Refused(Refusal::WrongLength(length)),
+    match fault {
+        Fault::Short => Refusal::Short(frame.len()),
+        Fault::WrongTag => Refusal::WrongTag(at),
+        Fault::WrongLength => Refusal::WrongLength(at + LENGTH),
     }
 }
 
 // Behind the end of the frame nothing remains.
-pub fn expect(frame: &[u8], at: usize, tag: u8, size: u8) -> Found
+#[tactic(auto, unfolding(crate::specs::Expected::expected, crate::specs::Expected::placed, crate::specs::Expected::refused_at, crate::specs::Expected::field_of))]
+pub fn expect(frame: &[u8], at: usize, tag: u8, size: u8) -> Result<(), Refusal>
     ensures { result ≡ expected frame.now at tag size }
 {
-    let end = frame.len();
-    if end < at {
-        return Found::Refused(Refusal::Short(end));
+    if frame.len() < at {
+        return Err(Refusal::Short(frame.len()));
     }
-    at_place(frame, at, look(&frame[at..], tag, size))
+    look(&frame[at..], tag, size).map_err(|fault| at_place(frame, at, fault))
 }

@@ -15,20 +15,17 @@ fn offer(slots: &mut [u8], row: &[u8], role: u8) -> bool
     requires { 8 ≤ length row.now }
     ensures { leaves slots.new result ≡ fill_rows slots.old (rows_bytes (length row.now - 8) (chosen (role ∷ []) (number row.now ∷ []))) }
 {
-    if role == 2 {
-        entering::enter(slots, row)
-    } else {
-        true
-    }
+    role != 2 || entering::enter(slots, row)
 }
 
 // The rows of a list whose role is 2 go in, up to the first that does not; whether all did.
 fn enter_all(slots: &mut [u8], list: &[u8], roles: &[u8], l: u8) -> bool
-    requires { (row_count l list.now ≤ length roles.now) × (row_count l list.now ≤ most_rows) }
+    requires roles { row_count l list.now ≤ length roles.now }
+    requires few { row_count l list.now ≤ most_rows }
     ensures { leaves slots.new result ≡ fill_rows slots.old (rows_bytes l (chosen roles.now (rows_of l list.now))) }
 {
-    for arrival in 0..lists::count(list.len(), l) {
-        let arrival = Arrival(arrival);
+    for i in 0..lists::count(list.len(), l) {
+        let arrival = Arrival(i);
         if !offer(
             slots,
             lists::row(list, l, arrival),
@@ -41,14 +38,11 @@ fn enter_all(slots: &mut [u8], list: &[u8], roles: &[u8], l: u8) -> bool
 }
 
 // The rows of a list whose role is 2 go into slots, up to the first that does not; whether all did. Where the list does not fit, none does.
+#[tactic(auto, unfolding(crate::specs::Fill::fill_of, crate::specs::Fill::fillable, rows::specs::Rows::row_count, places::specs::Places::most_rows))]
 pub fn fill(l: u8, list: &[u8], roles: &[u8], slots: &mut [u8]) -> bool
     ensures { leaves slots.new result ≡ fill_of l list.now roles.now slots.old }
 {
-    if !gate::whole(l, list.len()) {
-        return false;
-    }
-    if roles.len() < lists::count(list.len(), l) {
-        return false;
-    }
-    enter_all(slots, list, roles, l)
+    gate::whole(l, list.len())
+        && lists::count(list.len(), l) <= roles.len()
+        && enter_all(slots, list, roles, l)
 }

@@ -1,14 +1,15 @@
 -- What was noted stays noted, whatever is noted after it, since a bit that is set is never cleared. So a seed that was not noted is none of those that were.
 -- Assumes nothing.
-use mathlib.Core.Path.{◌≡◌, refl, sym, ap, ◌∙◌}
-use mathlib.Core.Bool.{Bool, true, false}
+use mathlib.Core.Path.{◌≡◌, refl, sym, ap, ap₂, ◌∙◌}
+use mathlib.Core.Bool.{Bool, true, false, ◌&&◌}
 use mathlib.Core.List.{List, [], ◌∷◌, ◌++◌, Memᴰ}
 use Prim.Native.Nat.{ℕ, ◌/◌, ◌%◌, ◌^◌, max, ◌≤◌, ◌<◌}
 use native.Mathlib.Nat.{div_self}
 use native.Mathlib.Omega.{arith}
 use lib.Bits.{bit_or, or_step, or_lt, or_shr}
 use lib.Dec.{eqb, lit<}
-use lib.ListN.{length, set, get_or, length-set}
+use lib.ListN.{length, set, get_or, length-set, get_or-append, take, drop, length-take, take-append-drop}
+use Rattle.std.proofs.lemmas.List.{set-append_left}
 use lib.Pow.{pow_pos, pow-lt}
 use lib.Seq.{get_or-set_same, get_or-set_other}
 use borrow.Author.Tests.{le-leb, lt-leb, eqb-true, eqb-false, eq-eqb}
@@ -28,9 +29,43 @@ module _ (seed : ℕ) (filter : List ℕ) where
   unfolding note_answer note_filter
   note_is h = rw (le-leb filter_bytes (length filter) h) (refl, refl)
 
+-- ---- what stands behind a filter's bytes does not count, and stays
+
+module _ (front back : List ℕ) (h : filter_bytes ≤ length front) where
+  at_front : (bit : ℕ) → byte_of bit < length front
+  unfolding byte_of filter_bytes
+  at_front bit = omega (arith, h)
+
+  is_set-front : (bit : ℕ) → is_set bit (front ++ back) ≡ is_set bit front
+  unfolding is_set
+  is_set-front bit = rw (get_or-append front back 0 (byte_of bit) (at_front bit))
+
+  pub noted-front : (seed : ℕ) → noted seed (front ++ back) ≡ noted seed front
+  unfolding noted
+  noted-front seed = ap₂ (λ a b. a && b) (is_set-front seed) (is_set-front (second_bit seed))
+
+  with_set-front : (bit : ℕ) → with_set bit (front ++ back) ≡ with_set bit front ++ back
+  unfolding with_set
+  with_set-front bit = rw (get_or-append front back 0 (byte_of bit) (at_front bit)) (set-append_left front back (byte_of bit) _ (at_front bit))
+
 length_with : (bit : ℕ) (filter : List ℕ) → length (with_set bit filter) ≡ length filter
 unfolding with_set
 length_with bit filter = length-set filter _ _
+
+pub note-front : (seed : ℕ) (front back : List ℕ) → filter_bytes ≤ length front → note seed (front ++ back) ≡ note seed front ++ back
+unfolding note
+note-front seed front back h =
+    ap (with_set (second_bit seed)) (with_set-front front back h seed) ∙ with_set-front (with_set seed front) back (rw (length_with seed front) h) (second_bit seed)
+
+-- by the bytes of the filter alone, as they are lent
+pub noted_part : (seed : ℕ) (filter front : List ℕ) → filter_bytes ≤ length filter → front ≡ take filter_bytes filter
+    → (noted seed front ≡ note_answer seed filter) × (note seed front ++ drop filter_bytes filter ≡ note_filter seed filter)
+noted_part seed filter front h e =
+    let back : List ℕ = drop filter_bytes filter in
+    let parts : front ++ back ≡ filter = rw e (take-append-drop filter_bytes filter) in
+    let long : filter_bytes ≤ length front = rw e (omega (arith, length-take filter_bytes filter)) in
+    let is = note_is seed filter h in
+    (sym (noted-front front back long seed) ∙ ap (noted seed) parts ∙ sym is.0, sym (note-front seed front back long) ∙ ap (note seed) parts ∙ sym is.1)
 
 pub length-note : (seed : ℕ) (filter : List ℕ) → length (note seed filter) ≡ length filter
 unfolding note

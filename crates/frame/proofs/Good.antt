@@ -12,12 +12,13 @@ use lib.Seq.{length-take-le}
 use borrow.Author.Tests.{ltb-false, not-false, le-ltb}
 use Rattle.octets.specs.Octets.{number}
 use Rattle.rows.specs.Rows.{shape}
-use Rattle.field.specs.declared.Field.{Field}
+use Rattle.std.proofs.Common.{Result, Ok, Err}
+use Rattle.field.specs.declared.Fault.{Fault}
+use Rattle.field.specs.declared.Fault.TheVariants as fault
 use Rattle.frame.specs.declared.Frame.{Frame}
-use Rattle.field.specs.declared.Field.TheVariants as field
 use Rattle.frame.specs.declared.Frame.TheVariants as frames
 use Rattle.frame.specs.Layout.{page_at, shape_at, seed_at, payload_at, frame_length, value}
-use Rattle.field.specs.Expected.{field_of, placed, expected}
+use Rattle.field.specs.Expected.{field_of, refused_at, placed, expected}
 use Rattle.frame.specs.Reading.{refusing, behind, first, n_of, l_of, second, third, ended, fourth, good, from_shape, reading}
 use Rattle.frame.specs.Numbers.{frame_numbers, refused, number_of, is_good, place_of, payload_of}
 use Rattle.frame.proofs.Tests.{passes}
@@ -34,13 +35,13 @@ refused_is (frames.WrongLength place) o = (refl, refl)
 refused_is frames.OutOfRange o = (refl, refl)
 refused_is (frames.Trailing place) o = (refl, refl)
 
-past_placed : (frame : List ℕ) (at : ℕ) (f : Field) (next : Frame) → is_good (behind (placed frame at f) next) ≡ true
-    → (f ≡ field.Whole) × (is_good next ≡ true)
-unfolding behind refusing placed frame_numbers
-past_placed frame at field.Whole next e = (refl, e)
-past_placed frame at field.Short next e = absurd (false≢true e)
-past_placed frame at field.WrongTag next e = absurd (false≢true e)
-past_placed frame at field.WrongLength next e = absurd (false≢true e)
+past_placed : (frame : List ℕ) (at : ℕ) (f : Result Unit Fault) (next : Frame) → is_good (behind (placed frame at f) next) ≡ true
+    → (f ≡ Ok tt) × (is_good next ≡ true)
+unfolding behind refusing placed refused_at frame_numbers
+past_placed frame at (Ok tt) next e = (refl, e)
+past_placed frame at (Err fault.Short) next e = absurd (false≢true e)
+past_placed frame at (Err fault.WrongTag) next e = absurd (false≢true e)
+past_placed frame at (Err fault.WrongLength) next e = absurd (false≢true e)
 
 -- a good reading came past each field
 past : (frame : List ℕ) (at tag size : ℕ) (next : Frame) → is_good (behind (expected frame at tag size) next) ≡ true
@@ -103,8 +104,8 @@ module _ (frame : List ℕ) where
     unfolding good
     values_are = (cc values, cc values, cc values, cc values)
 
-    pub good-long : length frame ≡ frame_length l
-    good-long = rw values_are.2 at fields.long
+    pub good_long : length frame ≡ frame_length l
+    good_long = rw values_are.2 at fields.long
 
     pub good-shaped : shape n l ≡ true
     good-shaped = rw (values_are.1, values_are.2) at fields.shaped
@@ -112,4 +113,4 @@ module _ (frame : List ℕ) where
     -- the payload has its l bytes
     pub good-payload : length (payload_of frame) ≡ l
     unfolding payload_of frame_numbers
-    good-payload = rw e (length-take-le l (drop 22 frame) (omega (arith, good-long, length-drop 22 frame)))
+    good-payload = rw e (length-take-le l (drop 22 frame) (omega (arith, good_long, length-drop 22 frame)))

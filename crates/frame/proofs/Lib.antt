@@ -1,6 +1,7 @@
 pub mod Tests
 pub mod Whole
 pub mod Good
+pub mod Parts
 pub mod Lengths
 pub mod Exact
 pub mod ReadBack

@@ -13,12 +13,13 @@ use borrow.Author.Tests.{le-leb, lt-ltb, eq-eqb, ne_eqb}
 use Rattle.space.proofs.Both.{both_true}
 use Rattle.octets.specs.Octets.{number}
 use Rattle.rows.specs.Rows.{shape}
-use Rattle.field.specs.declared.Field.{Field}
-use Rattle.field.specs.declared.Field.TheVariants as field
+use Rattle.std.proofs.Common.{Result, Ok, Err}
+use Rattle.field.specs.declared.Fault.{Fault}
+use Rattle.field.specs.declared.Fault.TheVariants as fault
 use Rattle.frame.specs.declared.Frame.{Frame}
 use Rattle.frame.specs.declared.Frame.TheVariants as frames
 use Rattle.frame.specs.Layout.{page_at, shape_at, seed_at, payload_at, frame_length}
-use Rattle.field.specs.Expected.{field_of, placed, expected, length_at}
+use Rattle.field.specs.Expected.{field_of, refused_at, placed, expected, length_at}
 use Rattle.frame.specs.Reading.{refusing, behind, first, n_of, l_of, second, third, ended, fourth, good, from_shape, reading}
 use Rattle.frame.specs.Pointed.{some_field, bad_tag, bad_length, pointed}
 use Rattle.frame.proofs.Tests.{either}
@@ -34,15 +35,15 @@ module _ (frame : List ℕ) where
     within : at + (3 + size) ≤ frame_length (l_of frame)
 
   module _ (at tag size : ℕ) (one : One at tag size) (next : Frame) (right : Whole (drop at frame) tag size → Right next) where
-    field_right : (f : Field) → Told (drop at frame) tag size f → Right (behind (placed frame at f) next)
-    unfolding behind refusing placed pointed bad_tag bad_length
-    field_right field.Whole t = right t
-    field_right field.Short t = both_true _ _ (eq-eqb (length frame) _ refl) (lt-ltb (length frame) _ (omega (arith, one.within, length-drop at frame)))
-    field_right field.WrongTag t =
+    field_right : (f : Result Unit Fault) → Told (drop at frame) tag size f → Right (behind (placed frame at f) next)
+    unfolding behind refusing placed refused_at pointed bad_tag bad_length
+    field_right (Ok _) t = right t
+    field_right (Err fault.Short) t = both_true _ _ (eq-eqb (length frame) _ refl) (lt-ltb (length frame) _ (omega (arith, one.within, length-drop at frame)))
+    field_right (Err fault.WrongTag) t =
         let is-bad = ne_eqb (get_or frame at 0) tag (λ e. t.1 (get_or-drop at frame 0 0 ∙ simp unary_clauses e)) in
         both_true _ _ (lt-ltb at _ (omega (arith, t.0, length-drop at frame)))
         (one.among _ (both_true _ _ (eq-eqb at at refl) (ap not is-bad)))
-    field_right field.WrongLength t =
+    field_right (Err fault.WrongLength) t =
         let is-bad = ne_eqb _ size (λ e. t.1 (ap (λ v. number (take 2 v)) (drop-drop 1 at frame) ∙ e)) in
         both_true _ _ (lt-ltb (length_at at + 1) _ (omega (arith, t.0, length-drop at frame)))
         (one.among _ (both_true _ _ (eq-eqb (length_at at) _ refl) (ap not is-bad)))

@@ -1,11 +1,9 @@
 -- What reading a frame answers. Document 01, "The frame".
-use Rattle.std.specs.Prelude.{ℕ, cond, not, List, ltb, length, get_or}
+use Rattle.std.specs.Prelude.{ℕ, cond, not, List, Result, Ok, Err, ltb, length, get_or}
 use Rattle.octets.specs.Octets.{number}
 use Rattle.rows.specs.Rows.{shape}
 use Rattle.field.specs.declared.Refusal.{Refusal}
 use Rattle.field.specs.declared.Refusal.TheVariants as refusal
-use Rattle.field.specs.declared.Found.{Found}
-use Rattle.field.specs.declared.Found.TheVariants as found
 use Rattle.field.specs.Expected.{expected}
 use Rattle.frame.specs.declared.Frame.{Frame}
 use Rattle.frame.specs.declared.Frame.TheVariants as frames
@@ -17,10 +15,15 @@ refusing (refusal.Short place) = frames.Short place
 refusing (refusal.WrongTag place) = frames.WrongTag place
 refusing (refusal.WrongLength place) = frames.WrongLength place
 
+-- What a reading ends with is its answer; a field that is not whole refuses the frame.
+abbrev pub answered : Result Frame Refusal → Frame
+answered (Ok frame) = frame
+answered (Err why) = refusing why
+
 -- "Reading goes left to right": behind a whole field it goes on.
-unfoldable pub behind : Found → Frame → Frame
-behind found.Whole next = next
-behind (found.Refused refusal) next = refusing refusal
+unfoldable pub behind : Result Unit Refusal → Frame → Frame
+behind (Ok _) next = next
+behind (Err why) next = refusing why
 
 -- "tag 1, page number, 4 bytes"
 unfoldable pub first : List ℕ → Frame → Frame

@@ -2,18 +2,17 @@
 #![tactic(auto)]
 
 ghost use Rattle.std.specs.Prelude.{◌≡◌, ◌+◌};
-ghost use Rattle.frame.specs.Reading.{reading};
+ghost use Rattle.frame.specs.Reading.{refusing, reading};
 ghost use Rattle.frame.specs.Numbers.{offset_of, payload_of};
 
-mod fields;
 pub mod layout;
 mod parse;
 
-use field::Found;
-use fields::refuse;
-use layout::{PAGE_AT, PAYLOAD};
+use field::Refusal;
+use layout::PAYLOAD;
 
-// The answer of reading; specs/Numbers.antt gives document 01's number, place and values for each case.
+// The answer of reading; specs/Numbers.antt gives document 01's number, place and values for each case. It is one enum, and no Result, since
+// document 01 has program and laying take it apart with let else, and pass a refusal on as it is.
 #[derive(Clone, Copy)]
 pub enum Frame {
     Good { page: u32, n: u8, l: u8, seed: u32 },
@@ -22,6 +21,20 @@ pub enum Frame {
     WrongLength(usize),
     OutOfRange,
     Trailing(usize),
+}
+
+// A field that is not whole refuses the frame.
+impl From<Refusal> for Frame {
+    ghost from_gives = { λ refusal frame. frame ≡ refusing refusal };
+
+    #[tactic(auto, unfolding(crate::specs::Reading::refusing))]
+    fn from(refusal: Refusal) -> Frame {
+        match refusal {
+            Refusal::Short(place) => Frame::Short(place),
+            Refusal::WrongTag(place) => Frame::WrongTag(place),
+            Refusal::WrongLength(place) => Frame::WrongLength(place),
+        }
+    }
 }
 
 // What a reading gives as numbers; the payload is the part of l bytes at the offset.
@@ -40,26 +53,19 @@ pub struct Numbers {
 pub fn read(frame: &[u8]) -> Frame
     ensures { result ≡ reading frame.now }
 {
-    let found = field::expect(frame, PAGE_AT, 1, 4);
-    if let Found::Refused(refusal) = found {
-        return refuse(refusal);
+    match parse::fields(frame) {
+        Ok(found) => found,
+        Err(refusal) => refusal.into(),
     }
-    parse::from_shape(frame)
 }
 
 // The payload, as that part of the frame itself; of a refused frame the empty part at its start.
+#[tactic(auto, using(crate::proofs::Good::refused_is, crate::proofs::Good::good_long), unfolding(crate::specs::Numbers::payload_of, crate::specs::Numbers::frame_numbers))]
 pub fn payload(frame: &[u8]) -> &[u8]
     ensures shows { result.now ≡ payload_of frame.now }
     ensures points { result.ref_ptr ≡ (frame.entry.ref_ptr.0, offset_of (reading frame.now) + frame.entry.ref_ptr.1) }
 {
-    let found = read(frame);
-    let Frame::Good {
-        page: _,
-        n: _,
-        l,
-        seed: _,
-    } = found
-    else {
+    let Frame::Good { l, .. } = read(frame) else {
         return &frame[..0];
     };
     let end = PAYLOAD + l as usize;

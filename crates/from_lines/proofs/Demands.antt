@@ -25,7 +25,7 @@ use Rattle.crossing.proofs.Laid.{Own}
 use Rattle.crossing.proofs.Flipped.{entry_taken, taken_own}
 use Rattle.crossing.proofs.Demand2.{frame-own, crossing-2}
 use Rattle.crossing.proofs.Demand3.{crossing-3}
-use Rattle.lines.specs.declared.Expected.TheVariants.{Only}
+use Rattle.std.proofs.Common.{Some}
 use Rattle.from_lines.specs.Lines.{Left, started, taken_all, frames_in, first_of_page, OwnFirst}
 use Rattle.from_lines.proofs.Joined.{lines_lay}
 
@@ -40,10 +40,10 @@ module _ (number n l : ℕ) where
 
   -- what lines have left, whose frames those are: the page, and the list of the frames laid one after the other
   module _ (lines frames : List (List ℕ)) (are : frames_in lines ≡ frames) (first : first_of_page number n l frames ≡ true) (list : List ℕ) where
-    left_is : taken_all lines (started list) ≡ record { expected = Only (record { number = number; n = n; l = l }); held = offered_all number n l frames (blank list) }
+    left_is : taken_all lines (started list) ≡ record { expected = Some (record { number = number; n = n; l = l }); held = offered_all number n l frames (blank list) }
     left_is = lines_lay number n l lines (rw are first) list ∙ rw are
 
-    page-expected : (taken_all lines (started list)).expected ≡ Only (record { number = number; n = n; l = l })
+    page-expected : (taken_all lines (started list)).expected ≡ Some (record { number = number; n = n; l = l })
     page-expected = ap (λ (left : Left). left.expected) left_is
 
     list_read : list_held l (taken_all lines (started list)).held ≡ list_laid number n l frames list
@@ -57,7 +57,7 @@ module _ (number n l : ℕ) (page : List ℕ) (small : number < 2 ^ 32) (s : sha
     (lines : List (List ℕ)) (are : frames_in lines ≡ frames_of (λ seed. frame_of number n l seed page) caught)
     (list : List ℕ) (room : list_row_bytes l * length (own_of caught) ≤ length list) (lent : Lent) (roomed : roomy n l (length (own_of caught)) lent ≡ true) where
   pub lines_2 : n ≤ rank (rows_for n l page (own_of caught))
-      → ((taken_all lines (started list)).expected ≡ Only (record { number = number; n = n; l = l }))
+      → ((taken_all lines (started list)).expected ≡ Some (record { number = number; n = n; l = l }))
       × (outcome n l (list_held l (taken_all lines (started list)).held) lent
       ≡ ended n l (entries_for n l page (own_of caught)) (in_list_order (entries_for n l page (own_of caught))) lent (answer.Page n (marked (counts (own_of caught)))) telling page)
   lines_2 enough = (
@@ -75,8 +75,8 @@ module _ (number n l : ℕ) (small : number < 2 ^ 32) (s : shape n l ≡ true)
     (caught : List (Caught Take)) (m : Mixed number n l (IsTake l) caught) (first : OwnFirst caught) (most : length (own_of caught) ≤ 512)
     (lines-p lines-q : List (List ℕ)) (are-p : frames_in lines-p ≡ frames_of (taken number n l p) caught) (are-q : frames_in lines-q ≡ frames_of (taken number n l q) caught)
     (list : List ℕ) (room : list_row_bytes l * length (own_of caught) ≤ length list) (lent : Lent) (roomed : roomy n l (length (own_of caught)) lent ≡ true) where
-  pub lines_3 : ((taken_all lines-p (started list)).expected ≡ Only (record { number = number; n = n; l = l }))
-      × ((taken_all lines-q (started list)).expected ≡ Only (record { number = number; n = n; l = l }))
+  pub lines_3 : ((taken_all lines-p (started list)).expected ≡ Some (record { number = number; n = n; l = l }))
+      × ((taken_all lines-q (started list)).expected ≡ Some (record { number = number; n = n; l = l }))
       × (outcome n l (list_held l (taken_all lines-q (started list)).held) lent ≡ added (xor_bytes p q) (outcome n l (list_held l (taken_all lines-p (started list)).held) lent))
   lines_3 = (
     page-expected number n l lines-p _ are-p (good p bp) list,

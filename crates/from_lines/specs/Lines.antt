@@ -1,23 +1,22 @@
 -- Lines taken one after the other, as the page reader takes them, and the frames that they stand for.
-use Rattle.std.specs.Prelude.{ℕ, ◌≡◌, Bool, false, cond, List, [], ◌∷◌}
+use Rattle.std.specs.Prelude.{ℕ, ◌≡◌, Bool, false, cond, List, [], ◌∷◌, Option, None}
 use Rattle.frame.specs.Reading.{reading}
 use Rattle.frame.specs.Numbers.{is_good}
 use Rattle.laying.specs.Laying.{same_page}
 use Rattle.crossing.specs.Held.{Held}
 use Rattle.crossing.specs.Caught.{Caught, own, other}
 use Rattle.text.specs.Hex.{pairs, bad}
-use Rattle.lines.specs.declared.Expected.{Expected}
-use Rattle.lines.specs.declared.Expected.TheVariants.{Nothing}
+use Rattle.lines.specs.declared.Page.{Page}
 use Rattle.lines.specs.Taking.{LineTaken, take_line}
 
 -- What lines have left: the page that is expected, and the list with its rows.
 pub record Left : Type 0 where
-  pub expected : Expected
+  pub expected : Option Page
   pub held : Held
 
 -- Before the first line no page is expected, and there are no rows, whatever the bytes of the list.
 abbrev pub started : List ℕ → Left
-started list = record { expected = Nothing; held = record { list = list; rows = 0 } }
+started list = record { expected = None; held = record { list = list; rows = 0 } }
 
 -- What a line's outcome leaves.
 abbrev pub left_by : LineTaken → Left

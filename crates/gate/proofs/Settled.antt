@@ -14,7 +14,7 @@ pub whole-settled : Settles whole.ps whole.r whole-contract.Post
 whole-settled κs args = unique (λ o is. ap (λ r. (r, (tt, (tt, tt)))) is)
 
 pub room-fits-settled : Settles room_fits.ps room_fits.r room-fits-contract.Post
-room-fits-settled κs args = unique (λ o is. ap (λ r. (r, (tt, (tt, (tt, (tt, (tt, (tt, tt)))))))) is)
+room-fits-settled κs args = unique (λ o is. ap (λ r. (r, (tt, (tt, (tt, tt))))) is)
 
 pub check_settled : Settles check.ps check.r check-contract.Post
-check_settled κs args = unique (λ o is. ap (λ r. (r, (tt, (tt, (tt, (tt, (tt, (tt, (tt, tt))))))))) is)
+check_settled κs args = unique (λ o is. ap (λ r. (r, (tt, (tt, (tt, (tt, tt)))))) is)

@@ -24,7 +24,7 @@ use Rattle.state.specs.Layout.{order_in}
 use Rattle.state.specs.Written.{emptied}
 use Rattle.views.proofs.Emptied.{emptied-length, emptied-order}
 use Rattle.absorb.specs.declared.Absorbed.TheVariants.{Kept, Other}
-use Rattle.echelon.specs.declared.Eliminated.TheVariants.{Rank}
+use Rattle.std.specs.Prelude.{Some}
 use Rattle.absorb.specs.Absorbing.{absorption}
 use Rattle.echelon.specs.Eliminating.{Elimination, rank_after, one_more, absorb_in, Eliminates}
 use Rattle.echelon.proofs.Turning.{length-order_in}
@@ -103,7 +103,7 @@ eliminated_holds l list n state order E b many stands inside distinct =
     let all = each_holds l list b order [] (emptied state) (omega (arith, length-order_in n state, ap length stands, E.many)) inside distinct
     (empty_holds l (entries_of l list) state E.some E.most (omega (arith, length-entries_of l list)) E.whole) in
     record {
-      answer = sym is.0 ∙ ap Rank (ap (λ (w : Elimination). w.rank) from ∙ all.1);
+      answer = sym is.0 ∙ ap Some (ap (λ (w : Elimination). w.rank) from ∙ all.1);
       holds = rw (← is.1) (rw from all.0);
       stays = ap (order_in n) (sym is.1) ∙ in_order l list n (order_in n state) _ ∙ emptied-order state n ∙ stands;
       long = ap length (sym is.1) ∙ in_length l list (order_in n state) _ ∙ emptied-length state;

@@ -1,5 +1,5 @@
 -- What it is for a state to hold the rows that an order takes: what `absorb` keeps true, and what choosing and the store read from a state.
-use Rattle.std.specs.Prelude.{ℕ, ◌*◌, ◌≤◌, ◌<◌, ◌≡◌, false, List, [], ◌∷◌, length}
+use Rattle.std.specs.Prelude.{ℕ, ◌*◌, ◌≤◌, ◌<◌, ◌≡◌, false, List, [], ◌∷◌, length, Some}
 use Rattle.places.specs.Places.{most_rows}
 use Rattle.rows.specs.Rows.{row_bytes, entries_of}
 use Rattle.reading.specs.Reading.{rank, uses}
@@ -7,7 +7,6 @@ use Rattle.reading.specs.Orders.{among, taken}
 use Rattle.reading.specs.Marks.{places_given}
 use Rattle.basis.specs.Algorithm2.{algorithm2}
 use Rattle.state.specs.Layout.{state_bytes, slots_in, uses_in, places_in, order_in}
-use Rattle.echelon.specs.declared.Eliminated.TheVariants.{Rank}
 use Rattle.absorb.specs.Absorbing.{tail_digits}
 use Rattle.echelon.specs.Eliminating.{elimination}
 
@@ -37,7 +36,7 @@ Distinct (arrival ∷ order) = (among order arrival ≡ false) × Distinct order
 -- Elimination held an order, the first n arrivals in a state's: it gives the rank of the rows taken, and the state holds them, its order and its length
 -- as they were.
 pub record Held (l : ℕ) (list : List ℕ) (n : ℕ) (state order : List ℕ) : Type 0 where
-  pub answer : (elimination l list n state).answer ≡ Rank (rank (taken l (entries_of l list) order))
+  pub answer : (elimination l list n state).answer ≡ Some (rank (taken l (entries_of l list) order))
   pub holds : Holds l (entries_of l list) order (elimination l list n state).state
   pub stays : order_in n (elimination l list n state).state ≡ order
   pub long : length (elimination l list n state).state ≡ length state

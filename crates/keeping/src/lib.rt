@@ -12,9 +12,11 @@ ghost use Rattle.keeping.specs.Keeping.{head_at, placed_state, KeepRoom, row_kep
 
 use places::{Arrival, KeptPlace};
 
-// The head of slot t, where reducing looks for it.
+// The head of slot t, where reducing looks for it. The state is no array of BYTES lent by `first_chunk_mut`: that was tried, and it takes a law that four nested
+// writes in the first bytes are those in the whole state, for one clause less in three functions.
 fn put_head(state: &mut [u8], vector: &[u8], t: usize)
-    requires { (t < most_kept) × (state_bytes ≤ length state.old) }
+    requires slot { t < most_kept }
+    requires whole { state_bytes ≤ length state.old }
     ensures { state.new ≡ lay (head_at t) (head_of t vector.now) state.old }
 {
     slotting::put_head(&mut state[state::HEADS..state::ORDER], vector, t);
@@ -22,7 +24,10 @@ fn put_head(state: &mut [u8], vector: &[u8], t: usize)
 
 // The vector, and in its tail the digit that names its kept place, to slot t.
 fn put_vector(state: &mut [u8], vector: &[u8], t: usize, place: KeptPlace)
-    requires { (t < most_kept) × (place.0 < most_kept) × (state_bytes ≤ length state.old) × (length vector.now ≡ vector_bytes) }
+    requires slot { t < most_kept }
+    requires place { place.0 < most_kept }
+    requires wide { length vector.now ≡ vector_bytes }
+    requires whole { state_bytes ≤ length state.old }
     ensures { state.new ≡ lay (t * vector_bytes) (bytes vector_bytes (number vector.now ⊕ 2 ^ place.0)) state.old }
 {
     slotting::put(&mut state[..state::USES], vector, t, place);
@@ -30,7 +35,9 @@ fn put_vector(state: &mut [u8], vector: &[u8], t: usize, place: KeptPlace)
 
 // This is where an arrival gets a kept place: the next one, with no uses yet.
 fn give_place(state: &mut [u8], arrival: Arrival, rank: usize) -> KeptPlace
-    requires { (arrival.0 < most_rows) × (rank < most_kept) × (state_bytes ≤ length state.old) }
+    requires arrival { arrival.0 < most_rows }
+    requires rank { rank < most_kept }
+    requires whole { state_bytes ≤ length state.old }
     ensures place { result.0 ≡ rank }
     ensures state { state.new ≡ placed_state arrival.0 rank state.old }
 {
@@ -49,23 +56,16 @@ fn keep_row(state: &mut [u8], vector: &[u8], t: usize, arrival: Arrival, rank: u
 }
 
 // Keeps the row of an arrival, whose vector stopped at slot t. Nothing is written where they do not fit.
+#[tactic(auto, unfolding(crate::specs::Keeping::kept_state, crate::specs::Keeping::keeps, tally::specs::Tally::most_kept, places::specs::Places::most_rows, slotting::specs::Slotting::vector_bytes, state::specs::Layout::state_bytes))]
 pub fn keep(state: &mut [u8], vector: &[u8], t: usize, arrival: Arrival, rank: usize)
     ensures { state.new ≡ kept_state t vector.now arrival.0 rank state.old }
 {
-    if tally::MOST_KEPT <= t {
-        return;
+    if t < tally::MOST_KEPT
+        && arrival.0 < places::MOST_ROWS
+        && rank < tally::MOST_KEPT
+        && vector.len() == slotting::VECTOR
+        && state::BYTES <= state.len()
+    {
+        keep_row(state, vector, t, arrival, rank);
     }
-    if places::MOST_ROWS <= arrival.0 {
-        return;
-    }
-    if tally::MOST_KEPT <= rank {
-        return;
-    }
-    if vector.len() != slotting::VECTOR {
-        return;
-    }
-    if state.len() < state::BYTES {
-        return;
-    }
-    keep_row(state, vector, t, arrival, rank);
 }

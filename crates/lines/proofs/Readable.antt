@@ -14,28 +14,25 @@ use Rattle.frame.specs.Numbers.{frame_numbers, number_of, is_good, place_of}
 use Rattle.laying.specs.Laying as laying
 use Rattle.frame.proofs.Good.{good_fields, fields_good}
 use Rattle.lines.specs.declared.Page.{Page}
-use Rattle.lines.specs.declared.Expected.{Expected}
-use Rattle.lines.specs.declared.Expected.TheVariants.{Nothing, Only}
 use Rattle.lines.specs.declared.Sheet.{Sheet}
-use Rattle.lines.specs.declared.Line.{Line}
-use Rattle.lines.specs.declared.Line.TheVariants.{Row, Refused}
+use Rattle.std.proofs.Common.{Option, None, Some, Ok, Err, is_ok}
 use Rattle.text.specs.Hex.{pairs, bad}
-use Rattle.lines.specs.Taking.{taken_as, result, expecting, page_of_frame, rows_after, lay_on, take_frame, take_line}
+use Rattle.lines.specs.Taking.{Line, refusal, taken_as, result, expecting, page_of_frame, rows_after, lay_on, take_frame, take_line}
 use Rattle.lines.specs.Readable.{InShape, Readable}
 use Rattle.lines.proofs.Takes.{result_row, laid-within}
 
 -- ---- kept by every line
 
-pub expecting-shaped : (expected : Expected) (good : Page) → InShape expected → shape good.n good.l ≡ true
+pub expecting-shaped : (expected : Option Page) (good : Page) → InShape expected → shape good.n good.l ≡ true
     → shape (expecting expected good).n (expecting expected good).l ≡ true
 unfolding expecting
-expecting-shaped Nothing good e s = s
-expecting-shaped (Only page) good e s = e
+expecting-shaped None good e s = s
+expecting-shaped (Some page) good e s = e
 
-rows_few : (line : Line) (rows : ℕ) → rows ≤ 512 → (line ≡ Row → rows ≤ 511) → rows_after line rows ≤ 512
+rows_few : (line : Line) (rows : ℕ) → rows ≤ 512 → (is_ok line ≡ true → rows ≤ 511) → rows_after line rows ≤ 512
 unfolding rows_after
-rows_few Row rows h k = let few : rows ≤ 511 = k refl in omega arith
-rows_few (Refused number place) rows h k = h
+rows_few (Ok row) rows h k = let few : rows ≤ 511 = k refl in omega arith
+rows_few (Err e) rows h k = h
 
 lay-readable : (page : Page) (frame : List ℕ) (rows : ℕ) (list : List ℕ) → shape page.n page.l ≡ true → rows ≤ 512
     → Readable (lay_on page frame rows list).taken.sheet
@@ -63,7 +60,7 @@ frame-readable frame sheet list s = go (is_good found) refl
     expected = expecting sheet.expected (page_of_frame found)
 
     go : (b : Bool) → is_good found ≡ b
-        → Readable (cond b (lay_on expected frame sheet.rows list) (taken_as (Refused (number_of found) (place_of found)) sheet list)).taken.sheet
+        → Readable (cond b (lay_on expected frame sheet.rows list) (taken_as (refusal (number_of found) (place_of found)) sheet list)).taken.sheet
     go true e = lay-readable expected frame sheet.rows list (expecting-shaped sheet.expected (page_of_frame found) s.shaped (good-page frame e)) s.few
     go false e = s
 
@@ -71,13 +68,13 @@ pub take-readable : (line : List ℕ) (sheet : Sheet) (list : List ℕ) → Read
 unfolding take_line
 take-readable line sheet list s = go (bad line)
   where
-    go : (b : Bool) → Readable (cond b (taken_as (Refused 17 0) sheet list) (take_frame (pairs line) sheet list)).taken.sheet
+    go : (b : Bool) → Readable (cond b (taken_as (refusal 17 0) sheet list) (take_frame (pairs line) sheet list)).taken.sheet
     go true = s
     go false = frame-readable (pairs line) sheet list s
 
 -- ---- and what it gives
 
-module _ (sheet : Sheet) (able : Readable sheet) (page : Page) (is : sheet.expected ≡ Only page) where
+module _ (sheet : Sheet) (able : Readable sheet) (page : Page) (is : sheet.expected ≡ Some page) where
   page-shaped : shape page.n page.l ≡ true
   page-shaped = rw is at able.shaped
 

@@ -11,45 +11,36 @@ use borrow.Author.Tests.{eqb-true, eqb-false, ltb-false}
 use Rattle.rows.specs.Rows.{shape, list_row_bytes}
 use Rattle.frame.specs.declared.Frame.{Frame}
 use Rattle.frame.specs.declared.Frame.TheVariants as frames
-use Rattle.laying.specs.declared.Laid.{Laid}
-use Rattle.laying.specs.declared.Laid.TheVariants as laid
+use Rattle.laying.specs.declared.Refusal.{Refusal}
+use Rattle.laying.specs.declared.Refusal.TheVariants as refused
 use Rattle.frame.specs.Reading.{reading}
 use Rattle.frame.specs.Numbers.{frame_numbers, number_of, is_good, place_of}
 use Rattle.laying.specs.Laying as laying
 use Rattle.lines.specs.declared.Page.{Page}
-use Rattle.lines.specs.declared.Expected.TheVariants.{Only}
 use Rattle.lines.specs.declared.Sheet.{Sheet}
-use Rattle.lines.specs.declared.Line.{Line}
-use Rattle.lines.specs.declared.Line.TheVariants.{Row, Refused}
+use Rattle.std.proofs.Common.{Result, Ok, Err, is_ok}
 use Rattle.text.specs.Hex.{pairs, bad}
-use Rattle.lines.specs.Taking.{taken_as, result, expecting, page_of_frame, rows_after, lay_on, take_frame, take_line}
+use Rattle.lines.specs.Taking.{Line, refusal, taken_as, result, expecting, page_of_frame, lay_on, take_frame, take_line}
 
 -- ---- a result
 
-pub result_row : (number place : ℕ) → result number place ≡ Row → number ≡ 0
+pub result_row : (number place : ℕ) → is_ok (result number place) ≡ true → number ≡ 0
 unfolding result
 result_row number place e = go (eqb number 0) refl e
   where
-    go : (b : Bool) → eqb number 0 ≡ b → cond b Row (Refused number place) ≡ Row → number ≡ 0
+    go : (b : Bool) → eqb number 0 ≡ b → is_ok (cond b (Ok tt) (refusal number place)) ≡ true → number ≡ 0
     go true f e = eqb-true number 0 f
-    go false f e = let z : ◌≡◌ {A = ℕ} 0 1 = cc in absurd (omega arith)
+    go false f e = absurd (cc)
 
-pub result-refused : (number place : ℕ) → eqb number 0 ≡ false → result number place ≡ Refused number place
+pub result-refused : (number place : ℕ) → eqb number 0 ≡ false → result number place ≡ refusal number place
 unfolding result
 result-refused number place e = rw e
 
 -- ---- a good frame
 
 module _ (page : Page) (frame : List ℕ) (rows : ℕ) (list : List ℕ) where
-  abbrev answered : Laid
+  abbrev answered : Result Unit Refusal
   answered = laying.laid frame page.number page.n page.l rows list
-
-  -- laying, its result and the rows after it
-  pub lays : (answer : Laid) → answer ≡ answered → (line : Line) → line ≡ result (laying.number_of answer) (laying.place_of answer)
-      → (more : ℕ) → more ≡ rows_after line rows → (after : List ℕ) → after ≡ laying.list_after answer (list_row_bytes page.l * rows) (laying.frame_entry frame) list
-      → taken_as line (record { expected = Only page; rows = more }) after ≡ lay_on page frame rows list
-  unfolding lay_on
-  lays answer a line e more m after l = rw (l, m, e, a)
 
   -- a row laid is one of the first 512
   pub laid-within : laying.number_of answered ≡ 0 → rows ≤ 511
@@ -62,7 +53,7 @@ module _ (page : Page) (frame : List ℕ) (rows : ℕ) (list : List ℕ) where
       found = reading frame
 
       go : (s g : Bool) → is_good found ≡ g → (p t : Bool) → ltb 511 rows ≡ t → (r : Bool)
-          → laying.number_of (cond (not s) laid.Shape (cond (not g) (laid.Refused found) (cond (not p) laid.OtherPage (cond t laid.Full (cond r laid.Room laid.Row))))) ≡ 0
+          → laying.number_of (cond (not s) (Err refused.Shape) (cond (not g) (Err (refused.Frame found)) (cond (not p) (Err refused.OtherPage) (cond t (Err refused.Full) (cond r (Err refused.Room) (Ok tt)))))) ≡ 0
           → rows ≤ 511
       go false g i p t j r e = absurd (omega arith)
       go true false i p t j r e = absurd (eqb-false (number_of found) 0 i e)
@@ -87,7 +78,7 @@ module _ (frame : List ℕ) (sheet : Sheet) (list : List ℕ) where
 -- ---- a line
 
 module _ (line : List ℕ) (sheet : Sheet) (list : List ℕ) where
-  pub line_bad : bad line ≡ true → taken_as (Refused 17 0) sheet list ≡ take_line line sheet list
+  pub line_bad : bad line ≡ true → taken_as (refusal 17 0) sheet list ≡ take_line line sheet list
   unfolding take_line
   line_bad e = rw e
 

@@ -14,7 +14,8 @@ pub fn count(list: usize, l: u8) -> usize
     list / rows::stride(l)
 }
 
-// The entry at an arrival number; the empty part at the list's start where there is none.
+// The entry at an arrival number; the empty part at the list's start where there is none. As an Option it would have each caller write the empty
+// part for None: no row agrees with it, is kept or has a stray bit. Tried by list.get(at..end), whose contract doesn't say where the part points.
 pub fn entry(list: &[u8], l: u8, arrival: Arrival) -> &[u8]
     ensures shows { result.now ≡ entry_at l arrival.0 list.now }
     ensures points { result.ref_ptr ≡ (list.entry.ref_ptr.0, start_of l arrival.0 list.now + list.entry.ref_ptr.1) }

@@ -13,15 +13,18 @@ use lib.Seq.{get_or-take, get_or-drop}
 use borrow.Author.Tests.{le-leb}
 use Rattle.space.specs.Space.{◌⊕◌}
 use Rattle.space.specs.Lists.{Below}
-use Rattle.octets.specs.Octets.{number, xor_bytes}
+use Rattle.octets.specs.Octets.{xor_bytes}
 use Rattle.octets.proofs.Runs.{below_parts}
 use Rattle.octets.proofs.Xors.{length-xor_bytes, drop-xor_bytes, take-xor_bytes}
+use Rattle.std.proofs.Common.{w64}
+use Rattle.std.specs.Int.{from_le_bytes}
+use Rattle.words.proofs.Eights.{eight_of}
 use Rattle.littles.specs.Littles.{little_of, little_at, little_bytes}
 
--- eight bytes from the last to the first stand for the same number
-pub little_turned : (a b c d e f g h : ℕ) → number (h ∷ g ∷ f ∷ e ∷ d ∷ c ∷ b ∷ a ∷ []) ≡ little_of (a ∷ b ∷ c ∷ d ∷ e ∷ f ∷ g ∷ h ∷ [])
-unfolding number little_of
-little_turned a b c d e f g h = omega arith
+-- the number that std reads from eight bytes
+pub eight_little : (v : List ℕ) → length v ≡ 8 → from_le_bytes w64 v ≡ little_of v
+unfolding little_of
+eight_little v h = rw (eight_of v h) (omega arith)
 
 pub little_inside : (i : ℕ) (bs : List ℕ) → i + 8 ≤ length bs → little_at i bs ≡ little_of (take 8 (drop i bs))
 unfolding little_at

@@ -1,22 +1,24 @@
 -- Making a row: its answer case by case, in 01's order, the head of an entry, and the room at exit.
 -- Assumes nothing.
 use mathlib.Core.Path.{◌≡◌, refl, sym, ap, ap₂, ◌∙◌}
-use mathlib.Core.Bool.{Bool, true, false}
+use mathlib.Core.Bool.{true, false}
 use mathlib.Core.List.{List, ◌++◌, append_assoc}
 use Prim.Native.Nat.{ℕ, ◌+◌, ◌-◌, ◌*◌, ◌≤◌, ◌<◌}
 use native.Mathlib.Omega.{arith}
-use lib.Dec.{eqb, ltb}
+use lib.Dec.{eqb}
 use lib.ListN.{length, take, drop, length-append}
 use lib.Seq.{length-take-le}
-use borrow.Author.Tests.{eqb-true, eqb-false, eq-eqb, ne_eqb, ltb-true, ltb-false, lt-ltb, le-ltb, lt-leb, le-leb}
+use borrow.Author.Tests.{lt-leb, le-leb}
 use borrow.Rule.Slice.PartMut.{put_mid, mid_len}
 use Rattle.octets.specs.Octets.{bytes, over}
 use Rattle.octets.proofs.Numbers.{length-bytes}
 use Rattle.octets.proofs.Runs.{length_over}
 use Rattle.octets.proofs.Lay.{lay-over, over-back}
 use Rattle.octets.proofs.Parts.{back, part-long}
-use Rattle.making.specs.declared.Made.{Made}
-use Rattle.making.specs.declared.Made.TheVariants.{Row, Shape, Stray, Room, Length}
+use Rattle.std.proofs.Common.{Ok, Err}
+use Rattle.std.proofs.lemmas.Grind.{common_steps}
+use Rattle.making.specs.declared.Refusal.{Refusal}
+use Rattle.making.specs.declared.Refusal.TheVariants.{Shape, Stray, Room, Length}
 use Rattle.rows.specs.Rows.{shape, symbols, list_row_bytes, named}
 use Rattle.rows.specs.Bytes.{stray, row_of, entry_of, cut}
 use Rattle.making.specs.Making.{number_of, make_answer, make_room, entry_head, headed}
@@ -32,42 +34,10 @@ pub record Makes (n l c page room : ℕ) : Type 0 where
   pub plain : stray n c ≡ false
   pub roomy : list_row_bytes l ≤ room
 
-module _ (n l c page room : ℕ) where
-  pub answer-shape : shape n l ≡ false → make_answer n l c page room ≡ Shape
-  unfolding make_answer
-  answer-shape s = rw s
-
-  module _ (s : shape n l ≡ true) where
-    pub answer-length : (page ≡ n * l → ⊥) → make_answer n l c page room ≡ Length
-    unfolding make_answer
-    answer-length e = rw (s, ne_eqb page (n * l) e)
-
-    module _ (e : page ≡ n * l) where
-      pub answer-stray : stray n c ≡ true → make_answer n l c page room ≡ Stray
-      unfolding make_answer
-      answer-stray t = rw (s, eq-eqb page (n * l) e, t)
-
-      pub answer-room : stray n c ≡ false → room < list_row_bytes l → make_answer n l c page room ≡ Room
-      unfolding make_answer
-      answer-room t h = rw (s, eq-eqb page (n * l) e, t, lt-ltb room (list_row_bytes l) h)
-
-      pub answer-row : stray n c ≡ false → list_row_bytes l ≤ room → make_answer n l c page room ≡ Row
-      unfolding make_answer
-      answer-row t h = rw (s, eq-eqb page (n * l) e, t, le-ltb room (list_row_bytes l) h)
-
-  pub row_makes : make_answer n l c page room ≡ Row → Makes n l c page room
-  unfolding number_of
-  row_makes row = go (shape n l) (eqb page (n * l)) (stray n c) (ltb room (list_row_bytes l)) refl refl refl refl
-    where
-      never : (m : Made) → make_answer n l c page room ≡ m → (number_of m ≡ 0 → ⊥) → Makes n l c page room
-      never m is other = absurd (other (ap number_of (sym is ∙ row)))
-
-      go : (s e t r : Bool) → shape n l ≡ s → eqb page (n * l) ≡ e → stray n c ≡ t → ltb room (list_row_bytes l) ≡ r → Makes n l c page room
-      go false e t r ps pe pt pr = never Shape (answer-shape ps) (λ z. omega arith)
-      go true false t r ps pe pt pr = never Length (answer-length ps (eqb-false page (n * l) pe)) (λ z. omega arith)
-      go true true true r ps pe pt pr = never Stray (answer-stray ps (eqb-true page (n * l) pe) pt) (λ z. omega arith)
-      go true true false true ps pe pt pr = never Room (answer-room ps (eqb-true page (n * l) pe) pt (ltb-true room (list_row_bytes l) pr)) (λ z. omega arith)
-      go true true false false ps pe pt pr = record { shaped = ps; sized = eqb-true page (n * l) pe; plain = pt; roomy = ltb-false room (list_row_bytes l) pr }
+pub row_makes : (n l c page room : ℕ) → make_answer n l c page room ≡ Ok tt → Makes n l c page room
+unfolding make_answer
+row_makes n l c page room row =
+    record { shaped = grind (arith, common_steps); sized = grind (arith, common_steps); plain = grind (arith, common_steps); roomy = grind (arith, common_steps) }
 
 -- ---- the head of an entry
 
@@ -85,10 +55,10 @@ module _ (seed c : ℕ) (room : List ℕ) where
   headed-over h = rw (le-leb 12 (length room) h)
 
   -- Its two parts as they come back are the head.
-  pub headed-written : 12 ≤ length room → (first second : List ℕ) → first ≡ bytes (length (take 4 room)) seed
+  pub headed_written : 12 ≤ length room → (first second : List ℕ) → first ≡ bytes (length (take 4 room)) seed
       → second ≡ bytes (length (take 8 (drop 4 (first ++ drop 4 room)))) c → put_mid 4 8 (first ++ drop 4 room) second ≡ headed seed c room
   unfolding entry_head
-  headed-written h first second ef es =
+  headed_written h first second ef es =
       let is : first ≡ bytes 4 seed = ef ∙ ap (λ (k : ℕ). bytes k seed) (length-take-le 4 room (omega arith)) in
       let begun : first ++ drop 4 room ≡ over (bytes 4 seed) room = over-back 4 first room (ap length is ∙ length-bytes 4 seed) ∙ ap (λ (t : List ℕ). over t room) is in
       let long : length (first ++ drop 4 room) ≡ length room = ap length begun ∙ length_over (bytes 4 seed) room (omega (arith, length-bytes 4 seed)) in
@@ -98,26 +68,25 @@ module _ (seed c : ℕ) (room : List ℕ) where
 
 -- ---- the room at exit
 
-refused-number : (m : Made) → (m ≡ Row → ⊥) → eqb (number_of m) 0 ≡ false
+refused-number : (why : Refusal) → eqb (number_of (Err why)) 0 ≡ false
 unfolding number_of
-refused-number Row other = absurd (other refl)
-refused-number Shape other = refl
-refused-number Stray other = refl
-refused-number Room other = refl
-refused-number Length other = refl
+refused-number Shape = refl
+refused-number Stray = refl
+refused-number Room = refl
+refused-number Length = refl
 
 module _ (n l seed c : ℕ) (page room : List ℕ) where
   -- "Refused, they write nothing."
-  pub room-refused : (make_answer n l c (length page) (length room) ≡ Row → ⊥) → make_room n l seed c page room ≡ room
+  pub room_refused : (why : Refusal) → make_answer n l c (length page) (length room) ≡ Err why → make_room n l seed c page room ≡ room
   unfolding make_room
-  room-refused other = rw (refused-number (make_answer n l c (length page) (length room)) other)
+  room_refused why is = rw (is, refused-number why)
 
-  room-made : make_answer n l c (length page) (length room) ≡ Row → make_room n l seed c page room ≡ over (entry_of n l seed c page) room
+  room-made : make_answer n l c (length page) (length room) ≡ Ok tt → make_room n l seed c page room ≡ over (entry_of n l seed c page) room
   unfolding make_room number_of
   room-made row = rw row
 
   -- The head over the room, and the sum right behind it, are the entry.
-  module _ (row : make_answer n l c (length page) (length room) ≡ Row) (end : ℕ) (ends : end ≡ list_row_bytes l) (begun : List ℕ) (eb : begun ≡ headed seed c room) where
+  module _ (row : make_answer n l c (length page) (length room) ≡ Ok tt) (end : ℕ) (ends : end ≡ list_row_bytes l) (begun : List ℕ) (eb : begun ≡ headed seed c room) where
     makes : Makes n l c (length page) (length room)
     makes = row_makes n l c (length page) (length room) row
 

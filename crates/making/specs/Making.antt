@@ -1,32 +1,32 @@
 -- Making a row from a page and a constraint: document 01, "The frame", and document 02, wish 3.
-use Rattle.std.specs.Prelude.{ℕ, ◌*◌, cond, not, List, ◌++◌, eqb, leb, ltb, length}
+use Rattle.std.specs.Prelude.{ℕ, ◌*◌, cond, not, List, ◌++◌, Result, Ok, Err, eqb, leb, ltb, length}
 use Rattle.octets.specs.Octets.{bytes, over}
 use Rattle.rows.specs.Rows.{shape, seed_bytes, entry_head_bytes, list_row_bytes}
 use Rattle.rows.specs.Bytes.{stray, entry_of}
-use Rattle.making.specs.declared.Made.{Made}
-use Rattle.making.specs.declared.Made.TheVariants.{Row, Shape, Stray, Room, Length}
+use Rattle.making.specs.declared.Refusal.{Refusal}
+use Rattle.making.specs.declared.Refusal.TheVariants.{Shape, Stray, Room, Length}
 
 -- "return a number (0 when done)":
-unfoldable pub number_of : Made → ℕ
-number_of Row = 0
-number_of Shape = 1
-number_of Room = 3
-number_of Stray = 4
-number_of Length = 8
+unfoldable pub number_of : Result Unit Refusal → ℕ
+number_of (Ok _) = 0
+number_of (Err Shape) = 1
+number_of (Err Room) = 3
+number_of (Err Stray) = 4
+number_of (Err Length) = 8
 
 -- "and a place: for 11 to 15 the frame's place, else 0."
-unfoldable pub place_of : Made → ℕ
+unfoldable pub place_of : Result Unit Refusal → ℕ
 place_of answer = 0
 
 -- "8, page length other than nL"; "Making a row from a constraint has the same order: 1; 8; 4 stray; 3, room under 8+L", which document 02, wish 3,
 -- makes 12+L. The page and the room count by their lengths.
-unfoldable pub make_answer : ℕ → ℕ → ℕ → ℕ → ℕ → Made
+unfoldable pub make_answer : ℕ → ℕ → ℕ → ℕ → ℕ → Result Unit Refusal
 make_answer n l c page room =
-    cond (not (shape n l)) Shape
-    (cond (not (eqb page (n * l))) Length
-    (cond (stray n c) Stray
-    (cond (ltb room (list_row_bytes l)) Room
-    Row)))
+    cond (not (shape n l)) (Err Shape)
+    (cond (not (eqb page (n * l))) (Err Length)
+    (cond (stray n c) (Err Stray)
+    (cond (ltb room (list_row_bytes l)) (Err Room)
+    (Ok tt))))
 
 -- "Success writes exactly the first" 12+L bytes. "Refused, they write nothing."
 unfoldable pub make_room : ℕ → ℕ → ℕ → ℕ → List ℕ → List ℕ → List ℕ

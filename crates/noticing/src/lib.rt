@@ -4,16 +4,9 @@
 ghost use Rattle.std.specs.Prelude.{◌≡◌, ◌≤◌, length};
 ghost use Rattle.noting.specs.Noting.{noted_in, noted_state};
 ghost use Rattle.store.specs.Store.{store_bytes, working_in, with_working};
-ghost use Rattle.noticing.specs.Noticing.{seed_in, is_repeat, noticed};
+ghost use Rattle.noticing.specs.Noticing.{is_repeat, noticed};
 
 use places::Arrival;
-
-// The seed of the row at an arrival number.
-fn seed(store: &[u8], l: u8, arrival: Arrival) -> u32
-    ensures { result ≡ seed_in l arrival.0 store.now }
-{
-    words::four(lists::entry(store::list(store), l, arrival))
-}
 
 // Notes a seed in the working, and tells whether it may have been noted before.
 fn note(store: &mut [u8], seed: u32) -> bool
@@ -33,8 +26,6 @@ pub fn is_repeat(store: &mut [u8], l: u8, arrival: Arrival) -> bool
     if store.len() < store::BYTES {
         return false;
     }
-    if note(store, seed(store, l, arrival)) {
-        return repeats::is_repeat(store::list(store), l, arrival);
-    }
-    false
+    let seed = repeats::seed(store::list(store), l, arrival);
+    note(store, seed) && repeats::is_repeat(store::list(store), l, arrival)
 }

@@ -1,11 +1,10 @@
--- What fits `put_arrival`, `forget` and `note`, and the state afterwards either way: by the tests that the code makes, in its order.
+-- What fits `put_arrival`, `forget` and `note`, and the state afterwards where it does.
 -- Assumes nothing.
 use mathlib.Core.Path.{◌≡◌, refl}
-use mathlib.Core.Bool.{true}
 use mathlib.Core.List.{List}
 use Prim.Native.Nat.{ℕ, ◌+◌, ◌*◌, ◌≤◌, ◌<◌}
 use lib.ListN.{length, replicate}
-use borrow.Author.Tests.{le-leb, lt-leb, lt-ltb, le-ltb}
+use borrow.Author.Tests.{le-leb, lt-ltb}
 use Rattle.octets.specs.Octets.{bytes, lay}
 use Rattle.filter.specs.Filter.{filter_bytes, noted, note}
 use Rattle.state.specs.Layout.{order_at, filter_at, state_bytes, filter_in}
@@ -14,18 +13,6 @@ use Rattle.noting.specs.Noting.{orders, ordered_state, forgotten, noted_in, note
 -- ---- an arrival of the order
 
 module _ (i m : ℕ) (state : List ℕ) where
-  pub no_place : 512 ≤ i → state ≡ ordered_state i m state
-  unfolding ordered_state orders
-  no_place h = rw (le-ltb i 512 h)
-
-  pub no_arrival : i < 512 → 512 ≤ m → state ≡ ordered_state i m state
-  unfolding ordered_state orders
-  no_arrival a h = rw (lt-ltb i 512 a, le-ltb m 512 h)
-
-  pub no_order : i < 512 → m < 512 → length state < state_bytes → state ≡ ordered_state i m state
-  unfolding ordered_state orders
-  no_order a b h = rw (lt-ltb i 512 a, lt-ltb m 512 b, lt-leb state_bytes (length state) h)
-
   pub ordered_is : i < 512 → m < 512 → state_bytes ≤ length state → ordered_state i m state ≡ lay (order_at + 2 * i) (bytes 2 m) state
   unfolding ordered_state orders
   ordered_is a b h = rw (lt-ltb i 512 a, lt-ltb m 512 b, le-leb state_bytes (length state) h)
@@ -33,19 +20,11 @@ module _ (i m : ℕ) (state : List ℕ) where
 -- ---- the filter
 
 module _ (state : List ℕ) where
-  pub not_forgotten : length state < state_bytes → state ≡ forgotten state
-  unfolding forgotten
-  not_forgotten h = rw (lt-leb state_bytes (length state) h)
-
   pub forgotten_is : state_bytes ≤ length state → forgotten state ≡ lay filter_at (replicate filter_bytes 0) state
   unfolding forgotten
   forgotten_is h = rw (le-leb state_bytes (length state) h)
 
 module _ (seed : ℕ) (state : List ℕ) where
-  pub not_noted : length state < state_bytes → (true ≡ noted_in seed state) × (state ≡ noted_state seed state)
-  unfolding noted_in noted_state
-  not_noted h = rw (lt-leb state_bytes (length state) h) (refl, refl)
-
   pub noted_is : state_bytes ≤ length state → (noted_in seed state ≡ noted seed (filter_in state)) × (noted_state seed state ≡ lay filter_at (note seed (filter_in state)) state)
   unfolding noted_in noted_state
   noted_is h = rw (le-leb state_bytes (length state) h) (refl, refl)

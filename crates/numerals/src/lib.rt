@@ -9,11 +9,9 @@ pub fn put(into: &mut [u8], x: u64)
     ensures { into.new ≡ bytes (length into.old) x }
 {
     let mut rest = x;
-    let mut i = into.len();
-    while 0 < i {
-        i -= 1;
+    for i in (0..into.len()).rev() {
         into[i] = (rest % 256) as u8;
-        rest = rest / 256;
+        rest /= 256;
     }
 }
 
@@ -21,11 +19,5 @@ pub fn put(into: &mut [u8], x: u64)
 pub fn get(from: &[u8]) -> u64
     ensures { result ≡ number from.now % 2 ^ 64 }
 {
-    let mut x: u64 = 0;
-    let mut i: usize = 0;
-    while i < from.len() {
-        x = (x << 8) | (from[i] as u64);
-        i += 1;
-    }
-    x
+    from.iter().fold(0, |x, &byte| (x << 8) | u64::from(byte))
 }

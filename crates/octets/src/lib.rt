@@ -8,18 +8,15 @@ ghost use Rattle.octets.specs.Octets.{add_front, over};
 pub fn least(a: usize, b: usize) -> usize
     ensures { result ≡ min a b }
 {
-    if a < b { a } else { b }
+    a.min(b)
 }
 
 // Adds from, bit by bit, to the first bytes of into.
 pub fn add(into: &mut [u8], from: &[u8])
     ensures { into.new ≡ add_front into.old from.now }
 {
-    let n = least(into.len(), from.len());
-    let mut i: usize = 0;
-    while i < n {
-        into[i] = into[i] ^ from[i];
-        i += 1;
+    for i in 0..into.len().min(from.len()) {
+        into[i] ^= from[i];
     }
 }
 
@@ -27,22 +24,13 @@ pub fn add(into: &mut [u8], from: &[u8])
 pub fn clear(v: &mut [u8])
     ensures { v.new ≡ replicate (length v.old) 0 }
 {
-    let n = v.len();
-    let mut i: usize = 0;
-    while i < n {
-        v[i] = 0;
-        i += 1;
-    }
+    v.fill(0);
 }
 
 // Writes as much of from as there is room for over the first bytes of into.
 pub fn copy(into: &mut [u8], from: &[u8])
     ensures { into.new ≡ over (take (length into.old) from.now) into.old }
 {
-    let n = least(into.len(), from.len());
-    let mut i: usize = 0;
-    while i < n {
-        into[i] = from[i];
-        i += 1;
-    }
+    let n = into.len().min(from.len());
+    into[..n].copy_from_slice(&from[..n]);
 }

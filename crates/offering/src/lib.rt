@@ -1,26 +1,39 @@
 // Offers a frame to a store: its row is laid into the list and taken in, or it is refused and the store stays as it was. Document 02, wish 5.
 #![tactic(auto)]
 
-ghost use Rattle.std.specs.Prelude.{◌≡◌, ◌*◌, ◌≤◌, length};
-ghost use Rattle.rows.specs.Rows.{list_row_bytes};
-ghost use Rattle.laying.specs.Laying.{laid, frame_entry, list_after};
-ghost use Rattle.store.specs.Store.{store_bytes, list_in, with_list};
+ghost use Rattle.std.specs.Prelude.{◌≡◌, ◌≤◌, length};
+ghost use Rattle.store.specs.Store.{store_bytes};
+ghost use Rattle.offering.specs.declared.Refusal.TheVariants.{Store, Laying};
 ghost use Rattle.offering.specs.Offering.{offer_answer, offered_store, laid_in, laid_store};
 
-use laying::Laid;
 use places::Arrival;
-use store::{Head, Header};
+use store::Head;
 
-// The answer of an offer; specs/Offering.antt gives document 02's number and place for each case.
+// Why an offer is refused; specs/Offering.antt gives document 02's number and place for each case.
 #[derive(Clone, Copy)]
-pub enum Offered {
-    Room,
-    Header,
-    Laid(Laid),
+pub enum Refusal {
+    Store(store::Refusal),
+    Laying(laying::Refusal),
 }
 
-// Lays the row of a frame behind those that the store has.
-fn lay(store: &mut [u8], frame: &[u8], head: Head) -> Laid
+impl From<store::Refusal> for Refusal {
+    ghost from_gives = { λ refusal mine. mine ≡ Store refusal };
+
+    fn from(refusal: store::Refusal) -> Refusal {
+        Refusal::Store(refusal)
+    }
+}
+
+impl From<laying::Refusal> for Refusal {
+    ghost from_gives = { λ refusal mine. mine ≡ Laying refusal };
+
+    fn from(refusal: laying::Refusal) -> Refusal {
+        Refusal::Laying(refusal)
+    }
+}
+
+// Lays the row of a frame behind those that the store has. That the buffer is long enough is a clause, as in `newest`.
+fn lay(store: &mut [u8], frame: &[u8], head: Head) -> Result<(), laying::Refusal>
     requires { store_bytes ≤ length store.old }
     ensures answer { result ≡ laid_in frame.now head store.old }
     ensures store { store.new ≡ laid_store frame.now head store.old }
@@ -36,19 +49,13 @@ fn lay(store: &mut [u8], frame: &[u8], head: Head) -> Laid
 }
 
 // Offers a frame.
-pub fn offer(store: &mut [u8], frame: &[u8]) -> Offered
+#[tactic(auto, unfolding(crate::specs::Offering::offer_answer, crate::specs::Offering::offered_store, crate::specs::Offering::answer_by, crate::specs::Offering::after_by, crate::specs::Offering::of_laying, crate::specs::Offering::taken_after))]
+pub fn offer(store: &mut [u8], frame: &[u8]) -> Result<(), Refusal>
     ensures answer { result ≡ offer_answer frame.now store.old }
     ensures store { store.new ≡ offered_store frame.now store.old }
 {
-    match store::check(store) {
-        Header::Short => Offered::Room,
-        Header::OutOfRange => Offered::Header,
-        Header::Good(head) => {
-            let laid = lay(store, frame, head);
-            if let Laid::Row = laid {
-                newest::take(store);
-            }
-            Offered::Laid(laid)
-        }
-    }
+    let head = store::check(store)?;
+    lay(store, frame, head)?;
+    newest::take(store);
+    Ok(())
 }

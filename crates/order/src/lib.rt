@@ -2,10 +2,8 @@
 #![tactic(auto)]
 
 ghost use Rattle.std.specs.Prelude.{◌≡◌, ◌≤◌, length};
-ghost use Rattle.words.specs.Words.{four_of};
 ghost use Rattle.places.specs.Places.{most_rows};
 ghost use Rattle.rows.specs.Rows.{row_count, entries_of};
-ghost use Rattle.lists.specs.Lists.{entry_at};
 ghost use Rattle.repeats.specs.Repeats.{repeated};
 ghost use Rattle.state.specs.Layout.{state_bytes, arrival_at};
 ghost use Rattle.noting.specs.Noting.{noted_state};
@@ -14,20 +12,11 @@ ghost use Rattle.order.specs.Listed.{orderable, listed, taken_of, written, liste
 use places::Arrival;
 
 // Whether the arrivals of so many rows can stand in a state of so many bytes.
+#[tactic(auto, unfolding(crate::specs::Listed::orderable, places::specs::Places::most_rows, state::specs::Layout::state_bytes))]
 fn ordering(m: usize, room: usize) -> bool
     ensures { result ≡ orderable m room }
 {
-    if places::MOST_ROWS < m {
-        return false;
-    }
-    state::BYTES <= room
-}
-
-// The seed of a row: the first four bytes of its entry.
-fn seed(list: &[u8], l: u8, arrival: Arrival) -> u32
-    ensures { result ≡ four_of (entry_at l arrival.0 list.now) }
-{
-    words::four(lists::entry(list, l, arrival))
+    m <= places::MOST_ROWS && state::BYTES <= room
 }
 
 // Whether a row repeats an earlier one; and its seed is noted. Equal rows have equal seeds, so what the filter does not know is not looked for.
@@ -36,15 +25,14 @@ fn is_repeat(list: &[u8], l: u8, state: &mut [u8], arrival: Arrival) -> bool
     ensures answer { result ≡ repeated l arrival.0 list.now }
     ensures state { state.new ≡ noted_state (seed_at l list.now arrival.0) state.old }
 {
-    if noting::note(state, seed(list, l, arrival)) {
-        return repeats::is_repeat(list, l, arrival);
-    }
-    false
+    noting::note(state, repeats::seed(list, l, arrival)) && repeats::is_repeat(list, l, arrival)
 }
 
 // Takes a row unless it repeats an earlier one: writes its arrival number behind those taken before, and gives how many there are then.
+#[tactic(auto, unfolding(crate::specs::Listed::taken_next, crate::specs::Listed::taken_state))]
 fn take_row(list: &[u8], l: u8, state: &mut [u8], i: usize, taken: usize) -> usize
-    requires { (Next l list.now i state.old) × (taken ≤ i) }
+    requires next { Next l list.now i state.old }
+    requires few { taken ≤ i }
     ensures answer { result ≡ taken_next l list.now i taken }
     ensures state { state.new ≡ taken_state l list.now i taken state.old }
 {
@@ -55,9 +43,11 @@ fn take_row(list: &[u8], l: u8, state: &mut [u8], i: usize, taken: usize) -> usi
     taken + 1
 }
 
-// Takes the m rows of a list, one after the other.
+// Takes the m rows of a list, one after the other. That the state is whole is a clause and no array type, as in `keeping`.
 fn take_each(list: &[u8], l: u8, state: &mut [u8], m: usize) -> usize
-    requires { (m ≡ row_count l list.now) × (m ≤ most_rows) × (state_bytes ≤ length state.old) }
+    requires rows { m ≡ row_count l list.now }
+    requires many { m ≤ most_rows }
+    requires whole { state_bytes ≤ length state.old }
     ensures answer { result ≡ length (listed l list.now) }
     ensures state { state.new ≡ written l (entries_of l list.now) state.old }
 {
@@ -71,6 +61,7 @@ fn take_each(list: &[u8], l: u8, state: &mut [u8], m: usize) -> usize
 
 // "Rows are taken in list order": writes the arrival numbers of the rows that count, and gives how many there are. Document 02, wish 3: a row "equal to
 // an earlier list row" does not. Where the list has over 512 rows or the state is too short, nothing is written and none is taken.
+#[tactic(auto, unfolding(crate::specs::Listed::taken_of, crate::specs::Listed::listed_state, crate::specs::Listed::orderable, rows::specs::Rows::row_count, places::specs::Places::most_rows, state::specs::Layout::state_bytes))]
 pub fn in_list_order(list: &[u8], l: u8, state: &mut [u8]) -> usize
     ensures answer { result ≡ taken_of l list.now (length state.old) }
     ensures state { state.new ≡ listed_state l list.now state.old }

@@ -2,7 +2,6 @@
 -- Assumes nothing.
 use mathlib.Core.Path.{◌≡◌, refl, sym, ap, ◌∙◌}
 use Prim.Native.Nat.{ℕ, suc, ◌+◌, ◌-◌, ◌*◌, ◌≤◌, ◌<◌}
-use native.Mathlib.Nat.{zero-mul, suc-mul}
 use native.Mathlib.Numerals.{add-one}
 use native.Mathlib.Omega.{arith}
 use mathlib.Core.List.{List, ◌++◌}
@@ -16,23 +15,26 @@ use Rattle.octets.proofs.Lay.{lay-over, length-lay}
 use Rattle.octets.proofs.Views.{part_room, length_part}
 
 -- n symbols of l bytes are being written: the first k of them stand there
-pub record Writing (n l : ℕ) (f : ℕ → ℕ) (old now : List ℕ) (k at : ℕ) : Type 0 where
+pub record Writing (n l : ℕ) (f : ℕ → ℕ) (old now : List ℕ) (k : ℕ) : Type 0 where
   pub within : k ≤ n
-  pub from : at ≡ k * l
   pub long : length now ≡ length old
   pub holds : now ≡ over (flat l (tabulate k f)) old
 
-pub writing_start : (n l : ℕ) (f : ℕ → ℕ) (old : List ℕ) → Writing n l f old old 0 0
+pub writing_start : (n l : ℕ) (f : ℕ → ℕ) (old : List ℕ) → Writing n l f old old 0
 unfolding tabulate flat
-writing_start n l f old = record { within = omega arith; from = sym (zero-mul l); long = refl; holds = sym (over_none old) }
+writing_start n l f old = record { within = omega arith; long = refl; holds = sym (over_none old) }
 
-module _ (n l : ℕ) (f : ℕ → ℕ) (old now : List ℕ) (k at : ℕ) (room : n * l ≤ length old) (W : Writing n l f old now k at) where
+module _ (n l : ℕ) (f : ℕ → ℕ) (old now : List ℕ) (k : ℕ) (room : n * l ≤ length old) (W : Writing n l f old now k) where
   pub writing_end : n ≤ k → now ≡ over (flat l (tabulate n f)) old
   writing_end h = let e : k ≡ n = omega (arith, W.within) in rw e at W.holds
 
   module _ (h : k < n) where
+    -- where it begins
+    abbrev at : ℕ
+    at = k * l
+
     pub writing_room : at + l ≤ length now
-    writing_room = omega (arith, W.from, W.long, part_room l n k old room h)
+    writing_room = omega (arith, W.long, part_room l n k old room h)
 
     pub writing_part : length (take (at + l - at) (drop at now)) ≡ l
     writing_part = let wide : at + l - at ≡ l = omega arith in rw wide (length_part l at now writing_room)
@@ -41,13 +43,12 @@ module _ (n l : ℕ) (f : ℕ → ℕ) (old now : List ℕ) (k at : ℕ) (room :
     written = sym (ap (flat l) (tabulate-snoc k f) ∙ flat-snoc l (tabulate k f) (f k))
 
     size : length (flat l (tabulate k f)) ≡ at
-    size = length-flat l (tabulate k f) ∙ ap (λ (j : ℕ). j * l) (length-tabulate k f) ∙ sym W.from
+    size = length-flat l (tabulate k f) ∙ ap (λ (j : ℕ). j * l) (length-tabulate k f)
 
-    pub writing_more : (new : List ℕ) → new ≡ bytes l (f k) → Writing n l f old (take at now ++ (new ++ drop (at + l - at) (drop at now))) (k + 1) (at + l)
+    pub writing_more : (new : List ℕ) → new ≡ bytes l (f k) → Writing n l f old (take at now ++ (new ++ drop (at + l - at) (drop at now))) (k + 1)
     unfolding lay
     writing_more new e = record {
       within = omega arith;
-      from = ap (λ (a : ℕ). a + l) W.from ∙ sym (ap (λ (j : ℕ). j * l) (add-one k) ∙ suc-mul k l);
       long = ap length laid ∙ length-lay at new now (rw (ap length e ∙ length-bytes l (f k)) writing_room) ∙ W.long;
       holds = laid ∙ rw (W.holds, e) (lay-over at (flat l (tabulate k f)) (bytes l (f k)) old size ∙ ap (λ t. over t old) written ∙ rw (← add-one k));
     }

@@ -2,13 +2,14 @@
 // lines::take decides what a line gives, and reader::read_list what the rows give. Here the input is split and the answers are printed.
 #![tactic(auto)]
 
-ghost use Rattle.std.specs.Prelude.{◌≡◌, ◌+◌, ◌*◌, ◌≤◌, length, IfOk, OnErr};
-ghost use Rattle.lines.specs.Readable.{Readable};
-ghost use Rattle.page_reader.specs.Scanning.{Ready};
+ghost use Rattle.std.specs.Prelude.{◌≡◌, ◌*◌, ◌≤◌, true};
+ghost use Rattle.std.specs.Option.{ForSome};
+ghost use Rattle.rows.specs.Rows.{shape};
 
 mod print;
 
-use lines::{Expected, Page, Sheet};
+use arrayvec::ArrayVec;
+use lines::{Page, Sheet};
 use reading::Answer;
 use std::io;
 use std::io::Read;
@@ -22,135 +23,86 @@ const CHUNK: usize = 4096;
 // 512 rows of at most 44 bytes.
 const LIST_BYTES: usize = 22528;
 
-// How far the input is split: whether more may come, how many lines have ended, and how much is kept of the next.
-#[derive(Clone, Copy)]
+// How far the input is split, and what it has given: how many lines have ended, what is kept of the next, and the sheet with its list of rows.
+#[derive(Drop)]
 struct Scan {
-    open: bool,
     lines: u64,
-    kept: usize,
+    kept: ArrayVec<u8, MOST_KEPT>,
     sheet: Sheet,
+    list: [u8; LIST_BYTES],
+    ghost few: { sheet.rows ≤ 512 },
+    ghost shaped: { ForSome sheet.expected (λ page. shape page.n page.l ≡ true) },
 }
 
-// Takes the line that is kept, and prints its result.
-fn end_line(rt: &impl Print, scan: Scan, line: &[u8], list: &mut [u8]) -> io::Result<Scan>
-    requires { Ready scan (length line.now) }
-    ensures ready { IfOk result (λ next. Ready next (length line.now)) }
-    ensures failed { OnErr result (length list.new ≡ length list.old) }
-{
-    let kept = scan.kept;
-    let taken = lines::take(&line[..kept], scan.sheet, list);
-    let sheet = taken.sheet;
-    let result = taken.line;
-    let number = std::num::wrapping_add_u64(scan.lines, 1);
-    print::result(rt, number, result)?;
-    Ok(Scan {
-        open: scan.open,
-        lines: number,
-        kept: 0,
-        sheet,
-    })
-}
+impl Scan {
+    fn new() -> Self {
+        Scan {
+            lines: 0,
+            kept: ArrayVec::new(),
+            sheet: Sheet {
+                expected: None,
+                rows: 0,
+            },
+            list: [0; LIST_BYTES],
+        }
+    }
 
-// Ends the line, or keeps one character more of it.
-fn take_byte(
-    rt: &impl Print,
-    scan: Scan,
-    byte: u8,
-    line: &mut [u8],
-    list: &mut [u8],
-) -> io::Result<Scan>
-    requires { Ready scan (length line.old) }
-    ensures ready { IfOk result (λ next. Ready next (length line.old)) }
-    ensures failed { OnErr result ((length line.new ≡ length line.old) × (length list.new ≡ length list.old)) }
-{
-    if byte == b'\n' {
-        return end_line(rt, scan, line, list);
+    // Takes the line that is kept, and prints its result.
+    fn end_line(&mut self, rt: &impl Print) -> io::Result<()> {
+        let taken = lines::take(self.kept.as_slice(), self.sheet, &mut self.list);
+        self.sheet = taken.sheet;
+        self.lines = self.lines.wrapping_add(1);
+        self.kept.clear();
+        print::result(rt, self.lines, taken.line)
     }
-    let kept = scan.kept;
-    if line.len() <= kept {
-        return Ok(scan);
-    }
-    line[kept] = byte;
-    let mut more = scan;
-    more.kept = kept + 1;
-    Ok(more)
-}
 
-fn take_chunk(
-    rt: &impl Print,
-    scan: Scan,
-    chunk: &[u8],
-    line: &mut [u8],
-    list: &mut [u8],
-) -> io::Result<Scan>
-    requires { Ready scan (length line.old) }
-    ensures ready { IfOk result (λ next. Ready next (length line.old)) }
-    ensures failed { OnErr result ((length line.new ≡ length line.old) × (length list.new ≡ length list.old)) }
-{
-    let mut next = scan;
-    let mut i = 0;
-    while i < chunk.len() {
-        next = take_byte(rt, next, chunk[i], line, list)?;
-        i += 1;
+    // Ends the line, or keeps one character more of it.
+    fn take_byte(&mut self, rt: &impl Print, byte: u8) -> io::Result<()> {
+        if byte == b'\n' {
+            return self.end_line(rt);
+        }
+        if !self.kept.is_full() {
+            self.kept.push(byte);
+        }
+        Ok(())
     }
-    Ok(next)
-}
 
-// Reads once.
-fn turn(
-    rt: &impl Print,
-    input: &mut impl Read,
-    scan: Scan,
-    line: &mut [u8],
-    list: &mut [u8],
-) -> io::Result<Scan>
-    requires { Ready scan (length line.old) }
-    ensures ready { IfOk result (λ next. Ready next (length line.old)) }
-    ensures failed { OnErr result ((length line.new ≡ length line.old) × (length list.new ≡ length list.old)) }
-{
-    let mut chunk = [0u8; CHUNK];
-    let n = input.read(&mut chunk)?;
-    if n == 0 {
-        let mut ended = scan;
-        ended.open = false;
-        return Ok(ended);
+    fn take_chunk(&mut self, rt: &impl Print, chunk: &[u8]) -> io::Result<()> {
+        for &byte in chunk {
+            self.take_byte(rt, byte)?;
+        }
+        Ok(())
     }
-    take_chunk(rt, scan, &chunk[..n], line, list)
-}
 
-// Reads to the end of the input. The turns are counted down, since nothing says that an input ends.
-fn read_all(
-    rt: &impl Print,
-    input: &mut impl Read,
-    scan: Scan,
-    line: &mut [u8],
-    list: &mut [u8],
-) -> io::Result<Scan>
-    requires { Ready scan (length line.old) }
-    ensures ready { IfOk result (λ next. Ready next (length line.old)) }
-    ensures failed { OnErr result ((length line.new ≡ length line.old) × (length list.new ≡ length list.old)) }
-{
-    let mut next = scan;
-    let mut turns = u64::MAX;
-    while 0 < turns && next.open {
-        next = turn(rt, input, next, line, list)?;
-        turns -= 1;
+    // Reads to the end of the input. The turns are counted, since nothing says that an input ends.
+    fn read_all(&mut self, rt: &impl Print, input: &mut impl Read) -> io::Result<()> {
+        let mut chunk = [0u8; CHUNK];
+        for _ in 0..u64::MAX {
+            let n = input.read(&mut chunk)?;
+            if n == 0 {
+                break;
+            }
+            self.take_chunk(rt, &chunk[..n])?;
+        }
+        Ok(())
     }
-    Ok(next)
-}
 
-// "the last line may lack its newline, and nothing after a last newline is no line."
-fn end_input(rt: &impl Print, scan: Scan, line: &[u8], list: &mut [u8]) -> io::Result<Sheet>
-    requires { Ready scan (length line.now) }
-    ensures ready { IfOk result Readable }
-    ensures failed { OnErr result (length list.new ≡ length list.old) }
-{
-    let kept = scan.kept;
-    if kept == 0 {
-        return Ok(scan.sheet);
+    // "the last line may lack its newline, and nothing after a last newline is no line."
+    fn end_input(&mut self, rt: &impl Print) -> io::Result<()> {
+        if self.kept.is_empty() {
+            return Ok(());
+        }
+        self.end_line(rt)
     }
-    let ended = end_line(rt, scan, line, list)?;
-    Ok(ended.sheet)
+
+    // Prints what the lines have left.
+    fn report(&self, rt: &impl Print) -> io::Result<()> {
+        let Some(page) = self.sheet.expected else {
+            return print::no_page(rt);
+        };
+        let end = self.sheet.rows * rows::stride(page.l);
+        read_rows(rt, page, self.sheet.rows, &self.list[..end])
+    }
 }
 
 // Prints what the rows give.
@@ -171,44 +123,17 @@ fn read_rows(rt: &impl Print, page: Page, rows: usize, list: &[u8]) -> io::Resul
         &mut scratch,
     );
     print::answer(rt, page, rows, answer)?;
-    let Answer::Page {
-        rank: _,
-        agreement: _,
-    } = answer
-    else {
+    let Answer::Page { .. } = answer else {
         return Ok(());
     };
     let size = page.n as usize * page.l as usize;
     print::page(rt, &bytes[..size])
 }
 
-fn report(rt: &impl Print, sheet: Sheet, list: &[u8]) -> io::Result<()>
-    requires readable { Readable sheet }
-    requires in_bounds { 22528 ≤ length list.now }
-{
-    let expected = sheet.expected;
-    let Expected::Only(page) = expected else {
-        return print::no_page(rt);
-    };
-    let end = sheet.rows * rows::stride(page.l);
-    read_rows(rt, page, sheet.rows, &list[..end])
-}
-
 fn main(rt: HostRuntime) -> io::Result<()> {
-    let mut line = [0u8; MOST_KEPT];
-    let mut list = [0u8; LIST_BYTES];
-    let sheet = Sheet {
-        expected: Expected::Nothing,
-        rows: 0,
-    };
-    let scan = Scan {
-        open: true,
-        lines: 0,
-        kept: 0,
-        sheet,
-    };
+    let mut scan = Scan::new();
     let mut input = rt.stdin();
-    let scan = read_all(&rt, &mut input, scan, &mut line, &mut list)?;
-    let sheet = end_input(&rt, scan, &line, &mut list)?;
-    report(&rt, sheet, &list)
+    scan.read_all(&rt, &mut input)?;
+    scan.end_input(&rt)?;
+    scan.report(&rt)
 }

@@ -16,13 +16,6 @@ pub struct KeptPlace(usize);
 // The most rows of a list.
 pub const MOST_ROWS: usize = 512;
 
-// What an arrival was given.
-#[derive(Clone, Copy)]
-pub enum Lookup {
-    Place(KeptPlace),
-    Nothing,
-}
-
 // ---- the kept places of arrivals, in two bytes each: place + 1, or 0
 
 // Gives a kept row, after so many others, its kept place.
@@ -42,15 +35,16 @@ pub fn give_none(places: &mut [u8], arrival: Arrival)
     doubles::put_pair(places, arrival.0, 0);
 }
 
-// The kept place that an arrival was given.
-pub fn given(places: &[u8], arrival: Arrival) -> Lookup
+// The kept place that an arrival was given, if any.
+#[tactic(auto, unfolding(crate::specs::Places::given_by))]
+pub fn given(places: &[u8], arrival: Arrival) -> Option<KeptPlace>
     ensures { result ≡ given_by (pair_at arrival.0 places.now) }
 {
     let number = doubles::pair(places, arrival.0) as usize;
     if number == 0 {
-        return Lookup::Nothing;
+        return None;
     }
-    Lookup::Place(KeptPlace(number - 1))
+    Some(KeptPlace(number - 1))
 }
 
 // ---- what stands at a kept place
@@ -70,6 +64,7 @@ pub fn no_uses(counts: &mut [u8], place: KeptPlace)
 }
 
 // Turns the digit of a tail that names a kept place; a tail that is too short stays.
+#[tactic(auto, unfolding(crate::specs::Places::named))]
 pub fn name(tail: &mut [u8], place: KeptPlace)
     ensures { tail.new ≡ named place.0 tail.old }
 {

@@ -1,14 +1,15 @@
--- How each end makes the outcome whole: the uses are those of the reading, as numbers or as pairs.
+-- How a reading's end makes the outcome whole, whatever elements hold the uses.
 -- Assumes nothing.
-use mathlib.Core.Path.{◌≡◌, sym, ap, ◌∙◌}
+use mathlib.Core.Path.{◌≡◌, refl, sym, ap, ◌∙◌}
 use Prim.Native.Nat.{ℕ, ◌/◌, ◌≤◌}
 use native.Mathlib.Omega.{arith}
-use mathlib.Core.List.{List, ◌++◌}
-use lib.ListN.{length, take, drop, replicate}
+use mathlib.Core.List.{List, [], ◌++◌}
+use lib.ListN.{length}
+use Rattle.std.specs.Prelude.{Result, Ok, Err}
 use Rattle.space.specs.Lists.{Below}
 use Rattle.octets.specs.Octets.{flat, over}
-use Rattle.octets.proofs.Runs.{length-numbers}
-use Rattle.octets.proofs.Back.{over_same, over-flat}
+use Rattle.octets.proofs.Runs.{length-numbers, over_none}
+use Rattle.octets.proofs.Lay.{over-all}
 use Rattle.doubles.specs.Doubles.{pairs_in}
 use Rattle.rows.specs.Rows.{row_count, entries_of}
 use Rattle.rows.proofs.Lists.{length-entries_of}
@@ -16,25 +17,21 @@ use Rattle.reading.specs.declared.Answer.{Answer}
 use Rattle.reading.specs.Answer.{answer_numbers}
 use Rattle.reading.specs.Orders.{in_list_order}
 use Rattle.reading.specs.Marks.{uses_marks}
-use Rattle.ends.proofs.Clearing.{cleared-part, cleared_is}
-use Rattle.reading.specs.Outcome.{scratch_bytes, Lent, passes, checks, outcome, zeros}
-use Rattle.reading.proofs.Checks.{passed, roomy-fits}
+use Rattle.reading.specs.Outcome.{scratch_bytes, Lent, Outcome, Check, passes, refuses, checks, outcome, zeros}
+use Rattle.reading.proofs.Checks.{passed, roomy-fits, Fits}
 use Rattle.reading.proofs.Given.{outcome-refused, outcome-read}
 use Rattle.reading.proofs.Spread.{length_marks}
+use Rattle.reading.proofs.Writes.{read-late}
 use Rattle.state.specs.Layout.{state_bytes, uses_part, places_part}
 use Rattle.views.proofs.Longer.{uses-longer, places-longer}
-use Rattle.checks.specs.declared.Checked.{Checked}
-use Rattle.checks.specs.declared.Checked.TheVariants.{Refused, Passed}
 use Rattle.checks.specs.Checks.{check_of, all_checks}
 use Rattle.checks.proofs.Gating.{checks_are}
-use Rattle.marks.specs.Mark.{uses_after, pairs_after}
-use Rattle.concluding.proofs.Marks.{uses-after, pairs-after}
-use Rattle.reader.specs.Reader.{buffers, outcome_of, Reads}
+use Rattle.marks.specs.Mark.{uses_after_in, pairs_after}
+use Rattle.marks.specs.Uses.{Written, KeptBack}
+use Rattle.marks.proofs.Written as marks
+use Rattle.concluding.proofs.Marks.{uses-after-in}
+use Rattle.reader.specs.Reader.{buffers, outcome_of, Returned, returned, outcome_with, Reads}
 use Rattle.reader.specs.Pairs.{pair_counts, counted, in_pairs}
-
--- the first 32,768 bytes were lent and came back cleared
-pub cleared : (scratch part : List ℕ) → scratch_bytes ≤ length scratch → part ≡ replicate (length (take 32768 scratch)) 0 → part ++ drop 32768 scratch ≡ over zeros scratch
-cleared scratch part room e = cleared-part scratch part room e ∙ cleared_is scratch room
 
 -- a longer state tells the same
 pub reads-longer : (n l : ℕ) (list page₀ roles₀ : List ℕ) (a : Answer) (page roles state more : List ℕ) → state_bytes ≤ length state
@@ -45,69 +42,114 @@ reads-longer n l list page₀ roles₀ a page roles state more whole R = record 
   counts = ap pairs_in (uses-longer state more whole (answer_numbers a).rank) ∙ R.counts;
 }
 
-module _ (n l : ℕ) (list : List ℕ) (lent : Lent) where
+-- ---- whatever elements hold the uses
+
+module _ {T : Type 0} {room_in : ℕ → ℕ} {counts : List T → List ℕ} {put_at : ℕ → ℕ → List T → List T} {written : List ℕ → List T → List T} {uses : List T}
+    (W : Written room_in put_at written) (K : KeptBack room_in counts written uses) (n l : ℕ) (list page roles scratch : List ℕ) where
+  -- what is lent, to the reading
+  abbrev own : Lent
+  own = buffers page (counts uses) roles scratch
+
   abbrev order : List ℕ
   order = in_list_order (entries_of l list)
 
   -- what the checks said
-  pub checks_say : (said : Checked) → check_of said ≡ all_checks n l list (length lent.page) (length lent.uses) (length lent.roles) (length lent.scratch) → check_of said ≡ checks n l list lent
-  checks_say said e = e ∙ checks_are n l list lent
+  pub checks_say : (said : Result (Unit {0}) Answer) (room : ℕ) → check_of said ≡ all_checks n l list (length page) room (length roles) (length scratch)
+      → room ≡ room_in (length uses) → check_of said ≡ checks n l list (buffers page (counts uses) roles scratch)
+  checks_say said room e r = e ∙ ap (λ (k : ℕ). all_checks n l list (length page) k (length roles) (length scratch)) (r ∙ sym K.room) ∙ checks_are n l list own
 
-  pub says_refused : (a : Answer) → check_of (Refused a) ≡ checks n l list lent → outcome_of a lent ≡ outcome n l list lent
+  pub says_passed : (said : Result (Unit {0}) Answer) (room : ℕ) → check_of said ≡ all_checks n l list (length page) room (length roles) (length scratch)
+      → room ≡ room_in (length uses) → said ≡ Ok tt → checks n l list (buffers page (counts uses) roles scratch) ≡ passes
   unfolding check_of
-  says_refused a e = outcome-refused in_list_order n l list lent a e
+  says_passed said room e r is = sym (checks_say said room e r) ∙ ap check_of is
 
-  pub says_passed : check_of Passed ≡ checks n l list lent → checks n l list lent ≡ passes
+  -- a refusal leaves every buffer
+  pub ends_refused : (a : Answer) → check_of (Err a) ≡ checks n l list (buffers page (counts uses) roles scratch)
+      → returned a page uses roles scratch ≡ outcome_with counts written n l list page uses roles scratch
   unfolding check_of
-  says_passed e = sym e
+  ends_refused a e = rw (← outcome-refused in_list_order n l list own a e) (ap (λ (us : List T). returned a page us roles scratch) (sym as_lent))
+    where
+      as_lent : written (counts uses) uses ≡ uses
+      as_lent = ap (λ (us : List ℕ). written us uses) (sym (over_none (counts uses))) ∙ K.back [] (omega arith) ∙ W.nothing uses
 
-  -- there is room for each row's uses
-  module _ (pass : checks n l list lent ≡ passes) where
-    room : length (entries_of l list) ≤ length lent.uses
-    room = omega (arith, (roomy-fits n l (row_count l list) lent (passed n l list lent pass).roomed).uses, length-entries_of l list)
+  module _ (pass : checks n l list (buffers page (counts uses) roles scratch) ≡ passes) where
+    fits : Fits n l (row_count l list) own
+    fits = roomy-fits n l (row_count l list) own (passed n l list own pass).roomed
 
-    -- ---- as numbers
+    pub wide : scratch_bytes ≤ length scratch
+    wide = fits.scratch
 
-    pub numbers_end : (a : Answer) (page roles state uses scratch : List ℕ) → Reads n l list lent.page lent.roles a page roles state
-        → uses ≡ uses_after (places_part (row_count l list) state) (uses_part (answer_numbers a).rank state) lent.uses → scratch ≡ over zeros lent.scratch
-        → outcome_of a (buffers page uses roles scratch) ≡ outcome n l list lent
-    numbers_end a page roles state uses scratch R e z =
-        rw (e ∙ uses-after l (entries_of l list) order (places_part (row_count l list) state) (uses_part (answer_numbers a).rank state) R.places R.counts lent.uses room, z)
-        (R.reads lent.uses lent.scratch ∙ sym (outcome-read in_list_order n l list lent pass))
+    -- there is room for each row's uses, which the end writes
+    pub ends_read : (a : Answer) (page₁ roles₁ state : List ℕ) (uses₁ : List T) (scratch₁ : List ℕ) → Reads n l list page roles a page₁ roles₁ state
+        → uses₁ ≡ uses_after_in room_in written (places_part (row_count l list) state) (uses_part (answer_numbers a).rank state) uses → scratch₁ ≡ over zeros scratch
+        → returned a page₁ uses₁ roles₁ scratch₁ ≡ outcome_with counts written n l list page uses roles scratch
+    ends_read a page₁ roles₁ state uses₁ scratch₁ R e z = rw (← whole, z) (ap (λ (us : List T). returned a page₁ us roles₁ (over zeros scratch)) so_written)
+      where
+        marks_in : List ℕ
+        marks_in = uses_marks l (entries_of l list) order
+
+        whole : outcome_of a (buffers page₁ (over marks_in (counts uses)) roles₁ (over zeros scratch)) ≡ outcome n l list own
+        whole = R.reads (counts uses) scratch ∙ sym (outcome-read in_list_order n l list own pass)
+
+        so_written : uses₁ ≡ written (over marks_in (counts uses)) uses
+        so_written =
+            e ∙ uses-after-in l (entries_of l list) order (places_part (row_count l list) state) (uses_part (answer_numbers a).rank state) R.places R.counts room_in written uses
+            (omega (arith, fits.uses, K.room, length-entries_of l list))
+            ∙ sym (K.back marks_in (omega (arith, fits.uses, K.room, length_marks l list order)))
+
+-- ---- as numbers
+
+module _ (n l : ℕ) (list page uses roles scratch : List ℕ) where
+  abbrev lent_here : Lent
+  lent_here = buffers page uses roles scratch
+
+  abbrev read_here : Outcome
+  read_here = outcome n l list lent_here
+
+  abbrev order_here : List ℕ
+  order_here = in_list_order (entries_of l list)
+
+  -- the outcome has as many uses as were lent
+  all_written : (k : Check) → checks n l list lent_here ≡ k → over read_here.lent.uses uses ≡ read_here.lent.uses
+  all_written passes p =
+      let is : read_here.lent.uses ≡ over (uses_marks l (entries_of l list) order_here) uses =
+      ap (λ (o : Outcome). o.lent.uses) (outcome-read in_list_order n l list lent_here p) ∙ (read-late n l (entries_of l list) order_here lent_here).uses in
+      let few : row_count l list ≤ length uses = (roomy-fits n l (row_count l list) lent_here (passed n l list lent_here p).roomed).uses in
+      ap (λ (us : List ℕ). over us uses) is
+      ∙ (marks.whole_back uses).back (uses_marks l (entries_of l list) order_here) (omega (arith, few, length_marks l list order_here)) ∙ sym is
+  all_written (refuses a) p =
+      let is : read_here.lent.uses ≡ uses = sym (ap (λ (o : Outcome). o.lent.uses) (outcome-refused in_list_order n l list lent_here a (sym p))) in
+      ap (λ (us : List ℕ). over us uses) is ∙ over-all uses uses refl ∙ sym is
+
+  pub in_numbers_is : (r : Returned ℕ) → r ≡ outcome_with (λ us. us) over n l list page uses roles scratch
+      → outcome_of r.answer (buffers r.page r.uses r.roles r.scratch) ≡ outcome n l list (buffers page uses roles scratch)
+  in_numbers_is r e =
+      ap (λ (x : Returned ℕ). outcome_of x.answer (buffers x.page x.uses x.roles x.scratch)) e
+      ∙ ap (λ (us : List ℕ). outcome_of read_here.answer (buffers read_here.lent.page us read_here.lent.roles read_here.lent.scratch)) (all_written (checks n l list lent_here) refl)
 
 -- ---- as pairs
 
-module _ (n l : ℕ) (list : List ℕ) (lent : Lent) (low : Below 256 lent.uses) where
-  abbrev own : Lent
-  own = counted lent
+module _ (n l : ℕ) (list : List ℕ) (lent : Lent) where
+  pub in_pairs_is : (r : Returned ℕ) → r ≡ outcome_with pairs_in (λ uses bytes. over (flat 2 uses) bytes) n l list lent.page lent.uses lent.roles lent.scratch
+      → outcome_of r.answer (buffers r.page r.uses r.roles r.scratch) ≡ in_pairs n l list lent
+  unfolding in_pairs pair_counts
+  in_pairs_is r e = ap (λ (x : Returned ℕ). outcome_of x.answer (buffers x.page x.uses x.roles x.scratch)) e
 
-  pub counts-long : length own.uses ≡ length lent.uses / 2
-  unfolding pair_counts
-  counts-long = length-numbers 2 (length lent.uses / 2) lent.uses
+  module _ (low : Below 256 lent.uses) where
+    pub counts-long : length (counted lent).uses ≡ length lent.uses / 2
+    unfolding pair_counts
+    counts-long = length-numbers 2 (length lent.uses / 2) lent.uses
 
-  pub pairs-refused : (a : Answer) → check_of (Refused a) ≡ checks n l list own → outcome_of a lent ≡ in_pairs n l list lent
-  unfolding in_pairs
-  pairs-refused a e =
-      rw (← says_refused n l list own a e) (ap (λ (us : List ℕ). outcome_of a (buffers lent.page us lent.roles lent.scratch))
-      (sym (unfold pair_counts in over_same 2 (length lent.uses / 2) lent.uses (omega arith) low)))
+    pub pairs-refused : (a : Answer) → check_of (Err a) ≡ checks n l list (counted lent) → outcome_of a lent ≡ in_pairs n l list lent
+    unfolding pair_counts
+    pairs-refused a e =
+        in_pairs_is (returned a lent.page lent.uses lent.roles lent.scratch)
+        (ends_refused marks.in_pairs (marks.pairs_back lent.uses low) n l list lent.page lent.roles lent.scratch a e)
 
-  pub pairs_end : (pass : checks n l list own ≡ passes) (a : Answer) (page roles state uses scratch : List ℕ) → Reads n l list lent.page lent.roles a page roles state
-      → uses ≡ pairs_after (places_part (row_count l list) state) (uses_part (answer_numbers a).rank state) lent.uses → scratch ≡ over zeros lent.scratch
-      → outcome_of a (buffers page uses roles scratch) ≡ in_pairs n l list lent
-  unfolding in_pairs
-  pairs_end pass a page roles state uses scratch R e z =
-      rw (← whole, z) (ap (λ (us : List ℕ). outcome_of a (buffers page us roles (over zeros lent.scratch))) written)
-    where
-      marks : List ℕ
-      marks = uses_marks l (entries_of l list) (in_list_order (entries_of l list))
-
-      whole : outcome_of a (buffers page (over marks own.uses) roles (over zeros lent.scratch)) ≡ outcome n l list own
-      whole = R.reads own.uses lent.scratch ∙ sym (outcome-read in_list_order n l list own pass)
-
-      many : length (entries_of l list) ≤ length lent.uses / 2
-      many = omega (arith, room n l list own pass, counts-long)
-
-      written : uses ≡ over (flat 2 (over marks own.uses)) lent.uses
-      written =
-          e ∙ pairs-after l (entries_of l list) (in_list_order (entries_of l list)) (places_part (row_count l list) state) (uses_part (answer_numbers a).rank state) R.places R.counts lent.uses many
-          ∙ sym (unfold pair_counts in over-flat 2 marks (length lent.uses / 2) lent.uses (omega (arith, many, length_marks l list (in_list_order (entries_of l list)), length-entries_of l list)) (omega arith) low)
+    pub pairs_end : (pass : checks n l list (counted lent) ≡ passes) (a : Answer) (page roles state uses scratch : List ℕ) → Reads n l list lent.page lent.roles a page roles state
+        → uses ≡ pairs_after (places_part (row_count l list) state) (uses_part (answer_numbers a).rank state) lent.uses → scratch ≡ over zeros lent.scratch
+        → outcome_of a (buffers page uses roles scratch) ≡ in_pairs n l list lent
+    unfolding pair_counts pairs_after
+    pairs_end pass a page roles state uses scratch R e z =
+        in_pairs_is (returned a page uses roles scratch)
+        (ends_read marks.in_pairs (marks.pairs_back lent.uses low) n l list lent.page lent.roles lent.scratch pass a page roles state uses scratch R e z)

@@ -18,7 +18,7 @@ use Rattle.reading.specs.Outcome.{zeros}
 use Rattle.reading.proofs.Checks.{Passed, passed, Fits, roomy-fits, inside, rows-most}
 use Rattle.state.specs.Layout.{uses_part, places_part}
 use Rattle.order.specs.Listed.{taken_of, listed_state}
-use Rattle.echelon.specs.declared.Eliminated.TheVariants.{Rank, Misfit}
+use Rattle.std.specs.Prelude.{Option, Some, None}
 use Rattle.echelon.specs.Eliminating.{elimination}
 use Rattle.holding.specs.Holds.{Held}
 use Rattle.holding.proofs.Listed.{listed-distinct, listed_below, listed-taken, listed-length, listed-order}
@@ -96,10 +96,10 @@ module _ (n l : ℕ) (list page roles state₀ : List ℕ) (P : Passing n l list
   held = order-held n l list (in_list_order entries) m ordered roles page O
 
   -- elimination fits
-  pub misfit_never : {X : Type 0} (k : ℕ) → k ≡ m → (state : List ℕ) → state ≡ ordered → Misfit ≡ (elimination l list k state).answer → X
+  pub misfit_never : {X : Type 0} (k : ℕ) → k ≡ m → (state : List ℕ) → state ≡ ordered → None ≡ (elimination l list k state).answer → X
   misfit_never k e state f is = let z : ◌≡◌ {A = ℕ} 0 1 = impossible (is ∙ rw (e, f) held.answer) in absurd (omega arith)
     where
-      impossible : Misfit ≡ Rank (rank rows) → ◌≡◌ {A = ℕ} 0 1
+      impossible : ◌≡◌ {A = Option ℕ} None (Some (rank rows)) → ◌≡◌ {A = ℕ} 0 1
       impossible h = cc
 
   -- what elimination leaves holds the rows
@@ -107,7 +107,7 @@ module _ (n l : ℕ) (list page roles state₀ : List ℕ) (P : Passing n l list
   left_concludes left is low = rw is (order_concludes n l list (in_list_order entries) m ordered roles page O (rw (← is) low))
 
   -- the three steps together
-  pub rows-read : (k : ℕ) → k ≡ m → (state : List ℕ) → state ≡ ordered → (r : ℕ) → Rank r ≡ (elimination l list k state).answer
+  pub rows-read : (k : ℕ) → k ≡ m → (state : List ℕ) → state ≡ ordered → (r : ℕ) → Some r ≡ (elimination l list k state).answer
       → (left : List ℕ) → left ≡ (elimination l list k state).state → Below 256 left
       → (a : Answer) (state₁ page₁ roles₁ : List ℕ) → ends a state₁ page₁ ≡ finished n l list k r left roles page → roles₁ ≡ roles_in n l list r left roles
       → Reads n l list page roles a page₁ roles₁ state₁
@@ -117,5 +117,5 @@ module _ (n l : ℕ) (list page roles state₀ : List ℕ) (P : Passing n l list
       kept : r ≡ rank rows
       kept = number (is ∙ rw (e, f) held.answer)
         where
-          number : Rank r ≡ Rank (rank rows) → r ≡ rank rows
+          number : Some r ≡ Some (rank rows) → r ≡ rank rows
           number h = cc

@@ -19,6 +19,23 @@ buffers page uses roles scratch = record { page = page; uses = uses; roles = rol
 abbrev pub outcome_of : Answer → Lent → Outcome
 outcome_of a lent = record { answer = a; lent = lent }
 
+-- What a reading answers and leaves, with uses of any elements.
+pub record Returned (T : Type 0) : Type 0 where
+  pub answer : Answer
+  pub page : List ℕ
+  pub uses : List T
+  pub roles : List ℕ
+  pub scratch : List ℕ
+
+abbrev pub returned : {T : Type 0} → Answer → List ℕ → List T → List ℕ → List ℕ → Returned T
+returned a page uses roles scratch = record { answer = a; page = page; uses = uses; roles = roles; scratch = scratch }
+
+-- The outcome for the uses that the lent elements stand for; at exit its uses are written back into these.
+abbrev pub outcome_with : {T : Type 0} → (List T → List ℕ) → (List ℕ → List T → List T) → ℕ → ℕ → List ℕ → List ℕ → List T → List ℕ → List ℕ → Returned T
+outcome_with counts written n l list page uses roles scratch =
+    let o = outcome.outcome n l list (buffers page (counts uses) roles scratch) in
+    returned o.answer o.lent.page (written o.lent.uses uses) o.lent.roles o.lent.scratch
+
 -- The list passes the checks, with uses and scratch of some length, and there is a whole state.
 pub record Passing (n l : ℕ) (list page roles state : List ℕ) : Type 0 where
   pub uses : List ℕ

@@ -1,17 +1,14 @@
-// Reads a list of rows: the checks, the order, elimination and the tail; then one of two ends writes the uses, as 16-bit numbers or as pairs of bytes.
+// Reads a list of rows: the checks, the order, elimination and the tail; and the end, which writes the uses as 16-bit numbers or as pairs of bytes.
 #![tactic(auto)]
 
 ghost use Rattle.std.specs.Prelude.{◌≡◌, ◌≤◌, length};
 ghost use Rattle.octets.specs.Octets.{over};
-ghost use Rattle.reading.specs.Answer.{answer_numbers};
 ghost use Rattle.reading.specs.Outcome.{outcome, zeros, scratch_bytes};
-ghost use Rattle.state.specs.Layout.{uses_part, places_part};
-ghost use Rattle.marks.specs.Mark.{uses_after, pairs_after};
-ghost use Rattle.reader.specs.Reader.{buffers, outcome_of, Passing, Reads};
+ghost use Rattle.reader.specs.Reader.{buffers, outcome_of, returned, outcome_with, Passing, Reads};
 ghost use Rattle.reader.specs.Pairs.{in_pairs};
 
-use checks::Checked;
-use echelon::Eliminated;
+use gate::Lengths;
+use marks::Uses;
 use reading::Answer;
 
 // Reads rows that pass the checks. The uses stay in the state, where elimination counted them.
@@ -28,8 +25,8 @@ fn read_rows(
 {
     let taken = order::in_list_order(list, l, state);
     match echelon::eliminate(state, list, l, taken) {
-        Eliminated::Rank(rank) => tail::finish(n, l, list, taken, rank, state, roles, page),
-        Eliminated::Misfit => Answer::Few { rank: 0 },
+        Some(rank) => tail::finish(n, l, list, taken, rank, state, roles, page),
+        None => Answer::Few { rank: 0 },
     }
 }
 
@@ -42,56 +39,45 @@ fn read_in(
     roles: &mut [u8],
     scratch: &mut [u8],
 ) -> Answer
-    requires { (Passing n l list.now page.old roles.old scratch.old) × (scratch_bytes ≤ length scratch.old) }
+    requires passing { Passing n l list.now page.old roles.old scratch.old }
+    requires room { scratch_bytes ≤ length scratch.old }
     ensures reads { Reads n l list.now page.old roles.old result page.new roles.new scratch.new }
     ensures behind { over zeros scratch.new ≡ over zeros scratch.old }
 {
     read_rows(n, l, list, page, roles, &mut scratch[..state::BYTES])
 }
 
-// ---- the two ends
-
-// "They set the first 32,768 scratch bytes to zero."
-fn clear_scratch(scratch: &mut [u8])
-    requires { scratch_bytes ≤ length scratch.old }
-    ensures { scratch.new ≡ over zeros scratch.old }
-{
-    octets::clear(&mut scratch[..gate::SCRATCH]);
-}
-
-// The uses of so many rows as 16-bit numbers, and then the scratch is cleared.
-fn end_in_numbers(answer: Answer, rows: usize, uses: &mut [u16], scratch: &mut [u8])
-    requires { scratch_bytes ≤ length scratch.old }
-    ensures uses { uses.new ≡ uses_after (places_part rows scratch.old) (uses_part (answer_numbers answer).rank scratch.old) uses.old }
-    ensures scratch { scratch.new ≡ over zeros scratch.old }
-{
-    let rank = answer_numbers::numbers_of(answer).rank;
-    marks::put_uses(
-        state::places(scratch, rows),
-        state::uses(scratch, rank),
-        uses,
-    );
-    clear_scratch(scratch);
-}
-
-// The same as pairs of bytes, the higher byte first.
-fn end_in_pairs(answer: Answer, rows: usize, uses: &mut [u8], scratch: &mut [u8])
-    requires { scratch_bytes ≤ length scratch.old }
-    ensures uses { uses.new ≡ pairs_after (places_part rows scratch.old) (uses_part (answer_numbers answer).rank scratch.old) uses.old }
-    ensures scratch { scratch.new ≡ over zeros scratch.old }
-{
-    let rank = answer_numbers::numbers_of(answer).rank;
-    marks::put_pairs(
-        state::places(scratch, rows),
-        state::uses(scratch, rank),
-        uses,
-    );
-    clear_scratch(scratch);
-}
-
 // ---- the readings
 
-// Reads a list: document 01, "How a list is read".
+// Reads a list, with uses as numbers or as pairs of bytes. The two public ones are a line each, since their contracts speak of `outcome` and of `in_pairs`.
+fn read<U: Uses>(
+    n: u8,
+    l: u8,
+    list: &[u8],
+    page: &mut [u8],
+    uses: &mut [U],
+    roles: &mut [u8],
+    scratch: &mut [u8],
+) -> Answer
+    ensures { returned result page.new uses.new roles.new scratch.new
+        ≡ outcome_with U.counts U.written n l list.now page.old uses.old roles.old scratch.old }
+{
+    let lent = Lengths {
+        page: page.len(),
+        uses: U::room(uses),
+        roles: roles.len(),
+        scratch: scratch.len(),
+    };
+    if let Err(answer) = checks::all(n, l, list, lent) {
+        return answer;
+    }
+    let answer = read_in(n, l, list, page, roles, scratch);
+    ends::end(answer, lists::count(list.len(), l), uses, scratch);
+    answer
+}
+
+// Reads a list: document 01, "How a list is read". The buffers are no struct: those who call hold four slices, each step here takes two or three of them, and of
+// references in a struct a clause could say what they leave only by their places in it.
 pub fn read_list(
     n: u8,
     l: u8,
@@ -104,22 +90,7 @@ pub fn read_list(
     ensures { outcome_of result (buffers page.new uses.new roles.new scratch.new)
         ≡ outcome n l list.now (buffers page.old uses.old roles.old scratch.old) }
 {
-    match checks::all(
-        n,
-        l,
-        list,
-        page.len(),
-        uses.len(),
-        roles.len(),
-        scratch.len(),
-    ) {
-        Checked::Refused(answer) => answer,
-        Checked::Passed => {
-            let answer = read_in(n, l, list, page, roles, scratch);
-            end_in_numbers(answer, lists::count(list.len(), l), uses, scratch);
-            answer
-        }
-    }
+    read(n, l, list, page, uses, roles, scratch)
 }
 
 // Reads a list, with uses as pairs of bytes, the higher byte first.
@@ -135,20 +106,5 @@ pub fn read_pairs(
     ensures { outcome_of result (buffers page.new uses.new roles.new scratch.new)
         ≡ in_pairs n l list.now (buffers page.old uses.old roles.old scratch.old) }
 {
-    match checks::all(
-        n,
-        l,
-        list,
-        page.len(),
-        uses.len() / 2,
-        roles.len(),
-        scratch.len(),
-    ) {
-        Checked::Refused(answer) => answer,
-        Checked::Passed => {
-            let answer = read_in(n, l, list, page, roles, scratch);
-            end_in_pairs(answer, lists::count(list.len(), l), uses, scratch);
-            answer
-        }
-    }
+    read(n, l, list, page, uses, roles, scratch)
 }

@@ -7,80 +7,58 @@ mod print;
 
 use std::io;
 
-// How many bytes of the page room and the scratch are lent, and how many marks.
+// How many bytes of the page room and the scratch are lent, and how many uses and roles.
 #[derive(Clone, Copy)]
-struct Rooms {
+struct Lent {
     page: usize,
-    marks: usize,
+    uses: usize,
     roles: usize,
     scratch: usize,
+    ghost page_in_range: { page ≤ 2048 },
+    ghost uses_in_range: { uses ≤ 513 },
+    ghost roles_in_range: { roles ≤ 513 },
+    ghost scratch_in_range: { scratch ≤ 32769 },
 }
 
-fn lent(page: usize, marks: usize, roles: usize, scratch: usize) -> Rooms
-    ensures { (result.page ≡ page) × (result.marks ≡ marks) × (result.roles ≡ roles) × (result.scratch ≡ scratch) }
-{
-    Rooms {
-        page,
-        marks,
-        roles,
-        scratch,
+impl Lent {
+    fn new(page: usize, uses: usize, roles: usize, scratch: usize) -> Self
+        requires page { page ≤ 2048 }
+        requires uses { uses ≤ 513 }
+        requires roles { roles ≤ 513 }
+        requires scratch { scratch ≤ 32769 }
+    {
+        Lent {
+            page,
+            uses,
+            roles,
+            scratch,
+        }
     }
 }
 
-fn show(
-    rt: &impl Print,
-    n: u8,
-    l: u8,
-    list: &[u8],
-    page: &mut [u8],
-    uses: &mut [u16],
-    roles: &mut [u8],
-    scratch: &mut [u8],
-) -> io::Result<()> {
-    print::answer(
-        rt,
-        reader::read_list(n, l, list, page, uses, roles, scratch),
-    )?;
-    print::bytes(rt, page)?;
-    print::words(rt, uses)?;
-    print::bytes(rt, roles)?;
-    print::scratch(rt, scratch)
-}
-
 // Reads a list into fresh rooms, of which no byte is zero.
-fn read(rt: &impl Print, n: u8, l: u8, list: &[u8], r: Rooms) -> io::Result<()>
-    requires { (r.page ≤ 2048) × (r.marks ≤ 513) × (r.roles ≤ 513) × (r.scratch ≤ 32769) }
-{
+fn read(rt: &impl Print, n: u8, l: u8, list: &[u8], lent: Lent) -> io::Result<()> {
     let mut page = [170u8; 2048];
     let mut uses = [43690u16; 513];
     let mut roles = [170u8; 513];
     let mut scratch = [170u8; 32769];
-    let page_end = r.page;
-    let uses_end = r.marks;
-    let roles_end = r.roles;
-    let scratch_end = r.scratch;
-    show(
-        rt,
-        n,
-        l,
-        list,
-        &mut page[0..page_end],
-        &mut uses[0..uses_end],
-        &mut roles[0..roles_end],
-        &mut scratch[0..scratch_end],
-    )
+    let page = &mut page[..lent.page];
+    let uses = &mut uses[..lent.uses];
+    let roles = &mut roles[..lent.roles];
+    let scratch = &mut scratch[..lent.scratch];
+    let answer = reader::read_list(n, l, list, page, uses, roles, scratch);
+    print::reading(rt, answer, page, uses, roles, scratch)
 }
 
 // Lays five rows at most, each of a seed, a constraint and a payload, a byte for each.
 fn lay_triples(triples: &[u8], list: &mut [u8])
-    requires { (length triples.now ≤ 15) × (length list.old ≡ 65) }
+    requires few { length triples.now ≤ 15 }
+    requires room { length list.old ≡ 65 }
 {
-    let mut i: usize = 0;
-    while i < triples.len() / 3 {
+    for i in 0..triples.len() / 3 {
         list[13 * i + 3] = triples[3 * i];
         list[13 * i + 11] = triples[3 * i + 1];
         list[13 * i + 12] = triples[3 * i + 2];
-        i += 1;
     }
 }
 
@@ -91,14 +69,8 @@ fn case(rt: &impl Print, n: u8, triples: &[u8]) -> io::Result<()>
     let mut list = [0u8; 65];
     lay_triples(triples, &mut list);
     let m = triples.len() / 3;
-    let end = 13 * m;
-    read(
-        rt,
-        n,
-        1,
-        &list[0..end],
-        lent(n as usize + 1, m + 1, m + 1, 32769),
-    )
+    let lent = Lent::new(n as usize + 1, m + 1, m + 1, 32769);
+    read(rt, n, 1, &list[..13 * m], lent)
 }
 
 const POWERS: [u8; 8] = [1, 2, 4, 8, 16, 32, 64, 128];
@@ -116,31 +88,35 @@ fn lay_row(i: usize, row: &mut [u8])
 
 // Rows 0, 1, 2 and so on, again from 0 after each turn.
 fn lay_rows(bytes: usize, turn: usize, list: &mut [u8])
-    requires { (13 ≤ bytes) × (1 ≤ turn) }
+    requires row { 13 ≤ bytes }
+    requires some { 1 ≤ turn }
 {
-    let mut i: usize = 0;
-    let mut at: usize = 0;
-    while bytes <= list.len() - at {
-        let end = at + bytes;
-        lay_row(i % turn, &mut list[at..end]);
-        at = end;
-        i += 1;
+    for (i, row) in list.chunks_exact_mut(bytes).enumerate() {
+        lay_row(i % turn, row);
     }
 }
 
-fn edge_in(rt: &impl Print, list: &mut [u8], n: u8, l: u8, turn: usize, r: Rooms) -> io::Result<()>
-    requires { (1 ≤ l) × (1 ≤ turn) × (r.page ≤ 2048) × (r.marks ≤ 513) × (r.roles ≤ 513) × (r.scratch ≤ 32769) }
-{
-    lay_rows(rows::stride(l), turn, list);
-    read(rt, n, l, list, r)
+// An edge: the shape of a page, after how many rows they come again, how many bytes the list has, and what is lent.
+#[derive(Clone, Copy)]
+struct Edge {
+    n: u8,
+    l: u8,
+    turn: usize,
+    size: usize,
+    lent: Lent,
 }
 
-// An edge: a list of so many bytes.
-fn edge(rt: &impl Print, n: u8, l: u8, turn: usize, size: usize, r: Rooms) -> io::Result<()>
-    requires { (1 ≤ l) × (1 ≤ turn) × (size ≤ 6669) × (r.page ≤ 2048) × (r.marks ≤ 513) × (r.roles ≤ 513) × (r.scratch ≤ 32769) }
-{
-    let mut list = [0u8; 6669];
-    edge_in(rt, &mut list[0..size], n, l, turn, r)
+impl Edge {
+    fn read(self, rt: &impl Print) -> io::Result<()>
+        requires bytes { 1 ≤ self.l }
+        requires rows { 1 ≤ self.turn }
+        requires size { self.size ≤ 6669 }
+    {
+        let mut list = [0u8; 6669];
+        let list = &mut list[..self.size];
+        lay_rows(rows::stride(self.l), self.turn, list);
+        read(rt, self.n, self.l, list, self.lent)
+    }
 }
 
 // K1 to K12, with the seeds 0, 1, 2 and so on.
@@ -173,30 +149,84 @@ fn repeats(rt: &impl Print) -> io::Result<()> {
 // More rows than any list has: none repeats another.
 const NEVER: usize = 1024;
 
+// The largest page, with just what it needs of each room.
+const LARGEST: Edge = Edge {
+    n: 64,
+    l: 32,
+    turn: NEVER,
+    size: 2816,
+    lent: Lent {
+        page: 2048,
+        uses: 64,
+        roles: 64,
+        scratch: 32768,
+    },
+};
+
+// The most rows, of a byte each.
+const MOST_ROWS: Edge = Edge {
+    l: 1,
+    size: 6656,
+    lent: Lent {
+        page: 64,
+        uses: 512,
+        roles: 512,
+        scratch: 32768,
+    },
+    ..LARGEST
+};
+
 // n 64, 65, 0 and a stray bit; L 33; 512 and 513 rows, and a byte less than a row.
 fn shapes(rt: &impl Print) -> io::Result<()> {
-    edge(rt, 64, 32, NEVER, 2816, lent(2048, 64, 64, 32768))?;
-    edge(rt, 65, 32, NEVER, 2816, lent(2048, 64, 64, 32768))?;
-    edge(rt, 0, 32, NEVER, 2816, lent(2048, 64, 64, 32768))?;
-    edge(rt, 63, 32, NEVER, 2816, lent(2048, 64, 64, 32768))?;
-    edge(rt, 64, 33, NEVER, 2816, lent(2048, 64, 64, 32768))?;
-    edge(rt, 64, 1, NEVER, 6656, lent(64, 512, 512, 32768))?;
-    edge(rt, 64, 1, NEVER, 6669, lent(64, 513, 513, 32768))?;
-    edge(rt, 64, 32, NEVER, 2815, lent(2048, 64, 64, 32768))
+    let lent = Lent::new(64, 513, 513, 32768);
+    LARGEST.read(rt)?;
+    Edge { n: 65, ..LARGEST }.read(rt)?;
+    Edge { n: 0, ..LARGEST }.read(rt)?;
+    Edge { n: 63, ..LARGEST }.read(rt)?;
+    Edge { l: 33, ..LARGEST }.read(rt)?;
+    MOST_ROWS.read(rt)?;
+    Edge {
+        size: 6669,
+        lent,
+        ..MOST_ROWS
+    }
+    .read(rt)?;
+    Edge {
+        size: 2815,
+        ..LARGEST
+    }
+    .read(rt)
 }
 
 // 256 rows shown twice, and 17 shown thirty times.
 fn turns(rt: &impl Print) -> io::Result<()> {
-    edge(rt, 64, 1, 256, 6656, lent(64, 512, 512, 32768))?;
-    edge(rt, 17, 1, 17, 6630, lent(17, 510, 510, 32768))
+    let lent = Lent::new(17, 510, 510, 32768);
+    Edge {
+        turn: 256,
+        ..MOST_ROWS
+    }
+    .read(rt)?;
+    Edge {
+        n: 17,
+        turn: 17,
+        size: 6630,
+        lent,
+        ..MOST_ROWS
+    }
+    .read(rt)
+}
+
+// The largest page, with less lent.
+fn with_lent(rt: &impl Print, lent: Lent) -> io::Result<()> {
+    Edge { lent, ..LARGEST }.read(rt)
 }
 
 // Each room short by one.
 fn short(rt: &impl Print) -> io::Result<()> {
-    edge(rt, 64, 32, NEVER, 2816, lent(2047, 64, 64, 32768))?;
-    edge(rt, 64, 32, NEVER, 2816, lent(2048, 63, 64, 32768))?;
-    edge(rt, 64, 32, NEVER, 2816, lent(2048, 64, 63, 32768))?;
-    edge(rt, 64, 32, NEVER, 2816, lent(2048, 64, 64, 32767))
+    with_lent(rt, Lent::new(2047, 64, 64, 32768))?;
+    with_lent(rt, Lent::new(2048, 63, 64, 32768))?;
+    with_lent(rt, Lent::new(2048, 64, 63, 32768))?;
+    with_lent(rt, Lent::new(2048, 64, 64, 32767))
 }
 
 fn main(rt: HostRuntime) -> io::Result<()> {

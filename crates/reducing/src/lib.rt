@@ -8,10 +8,7 @@ use slots::Reduced;
 
 // Where the heads are told, as far as the state has them. They make reducing faster, and whatever they hold, its answer is the same.
 fn heads(state: &[u8]) -> &[u8] {
-    if state.len() < state::BYTES {
-        return &state[..0];
-    }
-    &state[state::HEADS..state::ORDER]
+    state.get(state::HEADS..state::ORDER).unwrap_or(&[])
 }
 
 // Takes slots off work until its key has no digit left, or one whose slot is empty.

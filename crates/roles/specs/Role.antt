@@ -1,37 +1,33 @@
 -- The role at each arrival number. Document 01, "Answer numbers of a reading".
-use Rattle.std.specs.Prelude.{ℕ, ◌/◌, Bool, cond, List, map, leb, length}
+use Rattle.std.specs.Prelude.{ℕ, ◌/◌, Bool, cond, List, map, leb, length, Option, Some, None, Result, Ok, Err}
 use Rattle.octets.specs.Octets.{over}
 use Rattle.doubles.specs.Doubles.{pairs_in, pair_at}
-use Rattle.places.specs.declared.Lookup.{Lookup}
-use Rattle.places.specs.declared.Lookup.TheVariants.{Place, Nothing}
+use Rattle.places.specs.declared.KeptPlace.{KeptPlace}
 use Rattle.places.specs.Places.{given_by}
 use Rattle.reading.specs.Marks.{plain, telling}
-use Rattle.choose.specs.declared.Choice.{Choice}
-use Rattle.choose.specs.declared.Choice.TheVariants.{Few, Tie, Picked}
+use Rattle.choose.specs.declared.Unpicked.{Unpicked}
 use Rattle.choose.specs.Pick.{none_picked}
 
 -- ---- at one arrival number
 
 -- The fewest uses of a row that is marked as picked: "no 2 under 5 and 6".
-unfoldable pub least_marked : Choice → ℕ
-least_marked Few = none_picked
-least_marked Tie = none_picked
-least_marked (Picked least) = least
+unfoldable pub least_marked : Result ℕ Unpicked → ℕ
+least_marked (Ok least) = least
+least_marked (Err _) = none_picked
 
 -- What the kept rows' roles tell of the pick, by what is chosen.
-abbrev pub role_by : Choice → Bool → ℕ
-role_by Few = plain
-role_by Tie = plain
-role_by (Picked least) = telling
+abbrev pub role_by : Result ℕ Unpicked → Bool → ℕ
+role_by (Ok least) = telling
+role_by (Err _) = plain
 
 -- "1 kept, 2 picked", where the picked have `least` uses or more.
 unfoldable pub role : ℕ → ℕ → ℕ
 role least u = cond (leb least u) 2 1
 
 -- The role of a row whose arrival was given this, from the bytes that count uses by kept place.
-unfoldable pub role_of : ℕ → List ℕ → Lookup → ℕ
-role_of least counts (Place place) = role least (pair_at place.0 counts)
-role_of least counts Nothing = 0
+unfoldable pub role_of : ℕ → List ℕ → Option KeptPlace → ℕ
+role_of least counts (Some place) = role least (pair_at place.0 counts)
+role_of least counts None = 0
 
 -- ---- at all of them
 
@@ -41,5 +37,5 @@ roles_marked least places counts = map (λ x. role_of least counts (given_by x))
 
 -- ---- a buffer afterwards: marked where it has room for each row, and else as it was
 
-unfoldable pub roles_after : Choice → List ℕ → List ℕ → List ℕ → List ℕ
+unfoldable pub roles_after : Result ℕ Unpicked → List ℕ → List ℕ → List ℕ → List ℕ
 roles_after choice places counts roles = cond (leb (length places / 2) (length roles)) (over (roles_marked (least_marked choice) places counts) roles) roles

@@ -18,7 +18,7 @@ use Rattle.octets.proofs.Runs.{below_parts, get_or-numbers}
 use Rattle.octets.proofs.Digits.{bytes_zero, pow_lt_inv}
 use Rattle.octets.proofs.Views.{length_part}
 use Rattle.octets.proofs.Xors.{add_front-whole, length-xor_bytes, xor_bytes_assoc, xor_bytes_zero}
-use Rattle.bits.specs.Bits.{lowest}
+use Rattle.bits.specs.Bits.{lowest, TakesLowest}
 use Rattle.bits.proofs.Bits.{Lowest, lowest_place, lowest-back}
 use Rattle.rows.specs.Rows.{symbols, named}
 use Rattle.rows.specs.Bytes.{cut}
@@ -67,38 +67,46 @@ symbol-bytes l page b k h =
 
 -- ---- a loop over the set bits
 
--- Where the bits of rest are left to be added: what is held shows the sum of the symbols of the others.
+-- Where the bits of rest are left to be added: what is held shows the sum of the symbols of the others, and each bit names a symbol of the page.
 pub record Adding {A : Type 0} (shows : ℕ → A) (l : ℕ) (page : List ℕ) (names : ℕ) (held : A) (rest : ℕ) : Type 0 where
   pub sum : ℕ
   pub shown : held ≡ shows sum
-  pub fewer : rest ≤ names
+  pub fits : rest < 2 ^ 64
+  pub inside : rest < 2 ^ (length page / l)
   pub whole : sum ⊕ named (cut l page) rest ≡ named (cut l page) names
 
-module _ {A : Type 0} (shows : ℕ → A) (l : ℕ) (page : List ℕ) (names : ℕ) (held : A) where
-  pub adding_start : held ≡ shows 0 → Adding shows l page names held names
-  adding_start e = record { sum = 0; shown = e; fewer = le_refl names; whole = zero_⊕ (named (cut l page) names) }
+module _ {A : Type 0} {shows : ℕ → A} {l : ℕ} {page : List ℕ} {names : ℕ} {held : A} where
+  pub adding_start : held ≡ shows 0 → names < 2 ^ 64 → names < 2 ^ (length page / l) → Adding shows l page names held names
+  adding_start e fits inside = record { sum = 0; shown = e; fits = fits; inside = inside; whole = zero_⊕ (named (cut l page) names) }
 
-  pub adding_end : Adding shows l page names held 0 → held ≡ shows (named (cut l page) names)
-  adding_end a = a.shown ∙ ap shows (sym (⊕_zero a.sum) ∙ ap (λ (x : ℕ). a.sum ⊕ x) (sym (sum_by_zero (cut l page))) ∙ a.whole)
+  pub adding_end : {rest : ℕ} → Adding shows l page names held rest → rest ≡ 0 → held ≡ shows (named (cut l page) names)
+  adding_end {rest} a done =
+      let whole = rw done at a.whole in
+      a.shown ∙ ap shows (sym (⊕_zero a.sum) ∙ ap (λ (x : ℕ). a.sum ⊕ x) (sym (sum_by_zero (cut l page))) ∙ whole)
 
-  module _ (rest : ℕ) (fits : names < 2 ^ 64) (inside : names < 2 ^ (length page / l)) (a : Adding shows l page names held rest) (some : 0 < rest) where
-    -- the lowest bit names a symbol of the page
-    pub adding_bit : lowest rest < length page / l
+  module _ {rest k left : ℕ} (a : Adding shows l page names held rest) (t : TakesLowest rest k left) where
+    -- the bit names a symbol of the page, and that lies inside it
+    pub adding_bit : k < length page / l
     adding_bit =
-        let bit : 2 ^ lowest rest ≤ rest = omega (arith, lowest-back rest some (lt_of_le_of_lt a.fewer fits)) in
-        pow_lt_inv (lowest rest) (length page / l) (lt_of_le_of_lt (le_trans bit a.fewer) inside)
+        let bit : 2 ^ lowest rest ≤ rest = omega (arith, lowest-back rest t.some a.fits) in
+        rw t.lowest_is (pow_lt_inv (lowest rest) (length page / l) (lt_of_le_of_lt bit a.inside))
+
+    pub adding_room : k * l + l ≤ length page
+    adding_room = symbol-inside l page k adding_bit
 
     -- with its symbol added, it is done
-    pub adding_less : (next : A) → next ≡ shows (a.sum ⊕ get_or (cut l page) (lowest rest) 0) → Adding shows l page names next (rest - 2 ^ lowest rest)
-    adding_less next e = record {
-      sum = a.sum ⊕ get_or (cut l page) (lowest rest) 0;
-      shown = e;
-      fewer = omega (arith, a.fewer);
-      whole =
-          ⊕_assoc a.sum (get_or (cut l page) (lowest rest) 0) (named (cut l page) (rest - 2 ^ lowest rest))
-          ∙ ap (λ (x : ℕ). a.sum ⊕ x) (sym (named_bottom (cut l page) rest some (lt_of_le_of_lt a.fewer fits) (rw (length_symbols (length page / l) l page) adding_bit)))
-          ∙ a.whole;
-    }
+    pub adding_less : (next : A) → next ≡ shows (a.sum ⊕ get_or (cut l page) k 0) → Adding shows l page names next left
+    adding_less next e =
+        let within : lowest rest < length (cut l page) = rw (length_symbols (length page / l) l page, ← t.lowest_is) adding_bit in
+        record {
+          sum = a.sum ⊕ get_or (cut l page) k 0;
+          shown = e;
+          fits = omega (arith, a.fits, t.rest_is);
+          inside = omega (arith, a.inside, t.rest_is);
+          whole =
+              rw (t.lowest_is, t.rest_is) (⊕_assoc a.sum (get_or (cut l page) (lowest rest) 0) (named (cut l page) (rest - 2 ^ lowest rest))
+              ∙ ap (λ (x : ℕ). a.sum ⊕ x) (sym (named_bottom (cut l page) rest t.some a.fits within)) ∙ a.whole);
+        }
 
 -- ---- the sum in bytes
 

@@ -11,34 +11,23 @@ pub const SEED: usize = 4;
 pub const HEAD: usize = 12;
 
 // Whether n and L are in range.
+#[tactic(auto, unfolding(crate::specs::Rows::shape))]
 pub fn shaped(n: u8, l: u8) -> bool
     ensures { result ≡ shape n l }
 {
-    if n < 1 {
-        return false;
-    }
-    if 64 < n {
-        return false;
-    }
-    if l < 1 {
-        return false;
-    }
-    l <= 32
+    (1..=64).contains(&n) && (1..=32).contains(&l)
 }
 
 // The bytes from one entry of a list to the next.
 pub fn stride(l: u8) -> usize
     ensures { result ≡ list_row_bytes l }
 {
-    HEAD + (l as usize)
+    HEAD + usize::from(l)
 }
 
 // Whether a constraint names a symbol that a page of n symbols has not.
 pub fn strays(n: u8, constraint: u64) -> bool
     ensures { result ≡ stray n constraint }
 {
-    if 64 <= n {
-        return false;
-    }
-    (1u64 << n) <= constraint
+    n < 64 && (1u64 << n) <= constraint
 }

@@ -7,4 +7,4 @@ use Rattle.second_room.proofs.fits_too.Kinds as fits-too
 use Rattle.second_room.proofs.fits_too.Reads as fits-too-contract
 
 pub fits_too-settled : Settles fits-too.ps fits-too.r fits-too-contract.Post
-fits_too-settled κs args = unique (λ o is. ap (λ answer. (answer, (tt, (tt, (tt, (tt, (tt, (tt, (tt, (tt, tt)))))))))) is)
+fits_too-settled κs args = unique (λ o is. ap (λ answer. (answer, (tt, (tt, (tt, (tt, (tt, tt))))))) is)

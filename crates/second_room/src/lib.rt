@@ -5,25 +5,17 @@ ghost use Rattle.std.specs.Prelude.{◌≡◌};
 ghost use Rattle.gate.specs.Gate.{gate};
 ghost use Rattle.second_room.specs.Fits.{fits_too};
 
-use gate::Gate;
+use gate::{Lengths, Refusal};
 
 // Whether the second buffers are long enough, or an earlier refusal comes first.
-pub fn fits_too(
-    n: u8,
-    l: u8,
-    list: usize,
-    list2: usize,
-    page2: usize,
-    uses2: usize,
-    roles2: usize,
-    scratch: usize,
-) -> bool
-    ensures { result ≡ fits_too (gate n l list page2 uses2 roles2 scratch) list list2 }
+#[tactic(auto, unfolding(crate::specs::Fits::fits_too))]
+pub fn fits_too(n: u8, l: u8, list: usize, list2: usize, lent2: Lengths) -> bool
+    ensures { result ≡ fits_too (gate n l list lent2.page lent2.uses lent2.roles lent2.scratch) list list2 }
 {
-    match gate::check(n, l, list, page2, uses2, roles2, scratch) {
-        Gate::Open => list <= list2,
-        Gate::Shape => true,
-        Gate::List => true,
-        Gate::Room => false,
+    match gate::check(n, l, list, lent2) {
+        Ok(()) => list <= list2,
+        Err(Refusal::Shape) => true,
+        Err(Refusal::List) => true,
+        Err(Refusal::Room) => false,
     }
 }

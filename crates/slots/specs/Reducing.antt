@@ -1,10 +1,9 @@
 -- A pass over slots in bytes: `reduce` of the code. A vector is a key of some bytes and then its tail; there is a slot, as wide as the
 -- vector, for each digit of a key.
-use Rattle.std.specs.Prelude.{ℕ, ◌+◌, ◌-◌, ◌*◌, ◌≤◌, ◌<◌, ◌≡◌, Bool, cond, ◌&&◌, List, leb, ltb, length, drop}
+use Rattle.std.specs.Prelude.{ℕ, ◌+◌, ◌-◌, ◌*◌, ◌≤◌, ◌<◌, ◌≡◌, Bool, cond, ◌&&◌, List, Option, Some, None, leb, ltb, length, drop}
 use Rattle.octets.specs.Octets.{number, bytes, numbers}
 use Rattle.vectors.specs.Vectors.{bytes_of}
-use Rattle.slots.specs.declared.Walk.{Walk}
-use Rattle.slots.specs.declared.Walk.TheVariants.{Ended, Astray}
+use Rattle.vectors.specs.declared.Vector.{Vector}
 use Rattle.slots.specs.declared.Reduced.{Reduced}
 use Rattle.slots.specs.declared.Reduced.TheVariants.{Stopped, Spent, Misfit}
 use Rattle.basis.specs.Algorithm2.{Pass, pass}
@@ -35,10 +34,10 @@ pub record Grouped (key : ℕ) (slots before after : List ℕ) (g ended : ℕ) :
       → (ended ≡ 8 * g + 64) × ((rest_from key slots after ended).vector ≡ (rest_from key slots before (8 * g)).vector)
       × (ended + (rest_from key slots after ended).stop ≡ 8 * g + (rest_from key slots before (8 * g)).stop)
 
--- What a walk came to: where it ended, and the vector, are those of the pass over the 64 slots; astray, it tells nothing.
-unfoldable pub Walked : ℕ → List ℕ → List ℕ → ℕ → Walk → Type 0
-Walked key slots before g (Ended v ended) = Grouped key slots before (bytes_of v) g ended
-Walked key slots before g Astray = Unit {0}
+-- What a walk came to: the vector, and where it ended, are those of the pass over the 64 slots; astray, it tells nothing.
+unfoldable pub Walked : ℕ → List ℕ → List ℕ → ℕ → Option (Vector × ℕ) → Type 0
+Walked key slots before g (Some (v, ended)) = Grouped key slots before (bytes_of v) g ended
+Walked key slots before g None = Unit {0}
 
 -- Where a pass over n slots stops.
 unfoldable pub stop_of : ℕ → Pass → Reduced

@@ -9,7 +9,7 @@ use native.Mathlib.Omega.{arith}
 use lib.Dec.{ltb}
 use lib.ListN.{length, take, drop}
 use lib.Seq.{length-take-le}
-use borrow.Author.Tests.{lt-ltb, le-ltb, eq-eqb, ne_eqb}
+use borrow.Author.Tests.{lt-ltb, eq-eqb}
 use borrow.Rule.Slice.PartMut.{put_mid}
 use Rattle.space.specs.Space.{◌⊕◌}
 use Rattle.octets.specs.Octets.{number, bytes, lay}
@@ -23,23 +23,11 @@ use Rattle.places.specs.Places.{named}
 use Rattle.slotting.specs.Slotting.{vector_bytes, fits_slot, slotted, head_in, head_of, headed}
 
 module _ (t : ℕ) (vector : List ℕ) (r : ℕ) (slots : List ℕ) where
-  pub no_vector : (length vector ≡ vector_bytes → ⊥) → slots ≡ slotted t vector r slots
-  unfolding slotted fits_slot
-  no_vector h = rw (ne_eqb (length vector) vector_bytes h)
-
-  pub no_slot : length vector ≡ vector_bytes → length slots / vector_bytes ≤ t → slots ≡ slotted t vector r slots
-  unfolding slotted fits_slot
-  no_slot a h = rw (eq-eqb (length vector) vector_bytes a, le-ltb t (length slots / vector_bytes) h)
-
   pub slotted_is : length vector ≡ vector_bytes → t < length slots / vector_bytes → slotted t vector r slots ≡ lay (t * vector_bytes) (named r vector) slots
   unfolding slotted fits_slot
   slotted_is a h = rw (eq-eqb (length vector) vector_bytes a, lt-ltb t (length slots / vector_bytes) h)
 
 module _ (t : ℕ) (vector heads : List ℕ) where
-  pub no_head : length heads / 512 ≤ t / 64 → heads ≡ headed t vector heads
-  unfolding headed
-  no_head h = rw (le-ltb (t / 64) (length heads / 512) h)
-
   pub headed_is : t / 64 < length heads / 512 → headed t vector heads ≡ lay (head_in t) (head_of t vector) heads
   unfolding headed
   headed_is h = rw (lt-ltb (t / 64) (length heads / 512) h)

@@ -10,13 +10,11 @@ use places::KeptPlace;
 pub const VECTOR: usize = 80;
 
 // The vector, and in its tail the digit that names its kept place, to slot t. Nothing is written where they do not fit.
+#[tactic(auto, unfolding(crate::specs::Slotting::slotted, crate::specs::Slotting::fits_slot, crate::specs::Slotting::vector_bytes))]
 pub fn put(slots: &mut [u8], vector: &[u8], t: usize, place: KeptPlace)
     ensures { slots.new ≡ slotted t vector.now place.0 slots.old }
 {
-    if vector.len() != VECTOR {
-        return;
-    }
-    if slots.len() / VECTOR <= t {
+    if vector.len() != VECTOR || slots.len() / VECTOR <= t {
         return;
     }
     let at = t * VECTOR;
@@ -27,6 +25,7 @@ pub fn put(slots: &mut [u8], vector: &[u8], t: usize, place: KeptPlace)
 
 // Repeats the eight bytes of a vector in which the digit of slot t stands, where reducing looks for them. Nothing is written where there are no
 // heads for that slot.
+#[tactic(auto, unfolding(crate::specs::Slotting::headed))]
 pub fn put_head(heads: &mut [u8], vector: &[u8], t: usize)
     ensures { heads.new ≡ headed t vector.now heads.old }
 {

@@ -1,6 +1,6 @@
 -- What fits, and the outcome of `solve` either way: the answer, the slots and the page, from what the private steps gave.
 -- Assumes nothing.
-use mathlib.Core.Path.{◌≡◌, refl, sym, ap, ◌∙◌}
+use mathlib.Core.Path.{◌≡◌, sym, ap, ◌∙◌}
 use Prim.Native.Nat.{ℕ, ◌*◌, ◌≤◌}
 use native.Mathlib.Omega.{arith}
 use mathlib.Core.Bool.{Bool, true, false, not}
@@ -8,7 +8,7 @@ use mathlib.Core.List.{List, ◌++◌, map}
 use lib.Dec.{leb}
 use lib.ListN.{length, take, drop, replicate, length-append, length-replicate}
 use lib.Seq.{take_at, drop_at, length-take-le}
-use borrow.Author.Tests.{leb-true, not-true, not-false}
+use borrow.Author.Tests.{leb-true, not-false}
 use Rattle.space.specs.Space.{independent}
 use Rattle.space.proofs.Both.{both}
 use Rattle.octets.specs.Octets.{over}
@@ -18,8 +18,9 @@ use Rattle.chosen.specs.Chosen.{chosen, proper}
 use Rattle.chosen.proofs.Within.{Proper, proper_so}
 use Rattle.entering.specs.Enter.{slot_bytes}
 use Rattle.filled.proofs.Told.{told_exactly, told-page}
-use Rattle.solve.specs.declared.Solved.{Solved}
-use Rattle.solve.specs.declared.Solved.TheVariants.{Page, Singular, Misfit}
+use Rattle.std.specs.Prelude.{Result, Ok, Err}
+use Rattle.solve.specs.declared.Unsolved.{Unsolved}
+use Rattle.solve.specs.declared.Unsolved.TheVariants.{Singular}
 use Rattle.solve.specs.Solve.{solvable, solve_answer, solve_page, solve_slots}
 use Rattle.solve.specs.Parts.{told, page_told}
 
@@ -50,15 +51,11 @@ fitting_so n l list roles slots page b e t = fits_so n l list roles slots page (
 -- ---- the outcome
 
 -- what a call answers and leaves
-abbrev Ends : ℕ → ℕ → List ℕ → List ℕ → List ℕ → List ℕ → Solved → List ℕ → List ℕ → Type 0
+abbrev Ends : ℕ → ℕ → List ℕ → List ℕ → List ℕ → List ℕ → Result (Unit {0}) Unsolved → List ℕ → List ℕ → Type 0
 Ends n l list roles slots page r slots' page' =
     (r ≡ solve_answer n l list roles slots page) × ((slots' ≡ solve_slots r slots) × (page' ≡ solve_page r n l list roles page))
 
 module _ (n l : ℕ) (list roles slots page : List ℕ) where
-  pub outcome_misfit : (b : Bool) → b ≡ solvable n l list roles slots page → not b ≡ true → Ends n l list roles slots page Misfit slots page
-  unfolding solve_answer solve_slots solve_page
-  outcome_misfit b e t = let none : solvable n l list roles slots page ≡ false = sym e ∙ not-true b t in (rw none, (refl, refl))
-
   module _ (F : Fitting n l list roles slots page) where
     pub part-long : length (take slot_bytes slots) ≡ slot_bytes
     part-long = length-take-le slot_bytes slots F.wide
@@ -79,12 +76,12 @@ module _ (n l : ℕ) (list roles slots page : List ℕ) where
         free : independent (map (constraint l) (chosen roles (rows_of l list))) ≡ b
         free = sym (went ∙ told_exactly n l list roles F.good)
 
-        pub outcome-page : b ≡ true → Ends n l list roles slots page Page (part ++ drop slot_bytes (after ++ drop slot_bytes slots)) page'
+        pub outcome-page : b ≡ true → Ends n l list roles slots page (Ok tt) (part ++ drop slot_bytes (after ++ drop slot_bytes slots)) page'
         unfolding solve_answer solve_slots solve_page
         outcome-page y =
             let all : (told l list roles).all ≡ true = sym went ∙ y in
             (rw (F.fit, free ∙ y), (slots_are, paged ∙ rw all (told-page n l list roles F.good all page F.room)))
 
-        pub outcome-singular : b ≡ false → Ends n l list roles slots page Singular (part ++ drop slot_bytes (after ++ drop slot_bytes slots)) page'
+        pub outcome-singular : b ≡ false → Ends n l list roles slots page (Err Singular) (part ++ drop slot_bytes (after ++ drop slot_bytes slots)) page'
         unfolding solve_answer solve_slots solve_page
         outcome-singular y = let none : (told l list roles).all ≡ false = sym went ∙ y in (rw (F.fit, free ∙ y), (slots_are, paged ∙ rw none))

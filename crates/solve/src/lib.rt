@@ -9,25 +9,21 @@ ghost use Rattle.solve.specs.Parts.{told, page_told};
 // The bytes that solving asks for its slots.
 pub const SLOTS: usize = entering::SLOTS;
 
-// What came of solving. Page and Singular are document 01's answers 0 and 7; Misfit is for arguments that do not fit.
+// Why there is no page: Singular is document 01's answer 7; Misfit is for arguments that do not fit.
 #[derive(Clone, Copy)]
-pub enum Solved {
-    Page,
+pub enum Unsolved {
     Singular,
     Misfit,
 }
 
 // Whether the rows with role 2 are n that name no symbol past the page, and each buffer is long enough.
+#[tactic(auto, unfolding(crate::specs::Solve::solvable, entering::specs::Enter::slot_bytes))]
 fn fitting(n: u8, l: u8, list: &[u8], roles: &[u8], slots: &[u8], page: &[u8]) -> bool
     ensures { result ≡ solvable n l list.now roles.now slots.now page.now }
 {
-    if !chosen::proper(n, l, list, roles) {
-        return false;
-    }
-    if slots.len() < SLOTS {
-        return false;
-    }
-    (n as usize) * (l as usize) <= page.len()
+    chosen::proper(n, l, list, roles)
+        && SLOTS <= slots.len()
+        && n as usize * l as usize <= page.len()
 }
 
 // The rows go into cleared slots, and only where all did are the symbols written; whether they were.
@@ -38,23 +34,30 @@ fn write_page(page: &mut [u8], slots: &mut [u8], list: &[u8], roles: &[u8], n: u
 {
     octets::clear(slots);
     let all = filling::fill(l, list, roles, slots);
-    if !all {
-        return false;
+    if all {
+        page_of_slots::write(n, l, slots, page);
     }
-    page_of_slots::write(n, l, slots, page);
     all
 }
 
 // From the rows whose role is 2 to the page. The slots are left cleared.
-pub fn solve(n: u8, l: u8, list: &[u8], roles: &[u8], slots: &mut [u8], page: &mut [u8]) -> Solved
+#[tactic(auto, unfolding(crate::specs::Solve::solve_answer, crate::specs::Solve::solve_slots, crate::specs::Solve::solve_page, crate::specs::Solve::solvable, entering::specs::Enter::slot_bytes))]
+pub fn solve(
+    n: u8,
+    l: u8,
+    list: &[u8],
+    roles: &[u8],
+    slots: &mut [u8],
+    page: &mut [u8],
+) -> Result<(), Unsolved>
     ensures answer { result ≡ solve_answer n l list.now roles.now slots.old page.old }
     ensures slots { slots.new ≡ solve_slots result slots.old }
     ensures page { page.new ≡ solve_page result n l list.now roles.now page.old }
 {
     if !fitting(n, l, list, roles, slots, page) {
-        return Solved::Misfit;
+        return Err(Unsolved::Misfit);
     }
     let all = write_page(page, &mut slots[..SLOTS], list, roles, n, l);
     octets::clear(&mut slots[..SLOTS]);
-    if all { Solved::Page } else { Solved::Singular }
+    if all { Ok(()) } else { Err(Unsolved::Singular) }
 }

@@ -21,7 +21,9 @@ use Rattle.same_page.proofs.Reordered.{rows_free, rows-page}
 use Rattle.chosen.specs.Chosen.{chosen}
 use Rattle.chosen.proofs.Within.{proper_when}
 use Rattle.entering.specs.Enter.{slot_bytes}
-use Rattle.solve.specs.declared.Solved.TheVariants.{Page, Singular}
+use Rattle.std.specs.Prelude.{Result, Ok, Err}
+use Rattle.solve.specs.declared.Unsolved.{Unsolved}
+use Rattle.solve.specs.declared.Unsolved.TheVariants.{Singular}
 use Rattle.solve.specs.Solve.{solvable, solve_answer, solve_page}
 
 module _ (n l : ℕ) (list roles rows : List ℕ) (same : SameRows (chosen roles (rows_of l list)) (picked_rows n rows)) (one : tie n rows ≡ false)
@@ -42,15 +44,15 @@ module _ (n l : ℕ) (list roles rows : List ℕ) (same : SameRows (chosen roles
       rw (proper_when n l list roles (record { shaped = shaped; rows_whole = whole; known = known; size = size; inside = chosen-inside }))
       (rw (le-leb slot_bytes (length slots) wide) (le-leb (n * l) (length page) room))
 
-  pub solve_answer_lem : (slots page : List ℕ) → solvable n l list roles slots page ≡ true → solve_answer n l list roles slots page ≡ cond (singular n l rows) Singular Page
+  pub solve_answer_lem : (slots page : List ℕ) → solvable n l list roles slots page ≡ true → solve_answer n l list roles slots page ≡ cond (singular n l rows) (Err Singular) (Ok tt)
   unfolding solve_answer singular
   solve_answer_lem slots page fit = rw (fit, rows_free l (chosen roles (rows_of l list)) (picked_rows n rows) same) (turned (independent (map (constraint l) (picked_rows n rows))))
     where
-      turned : (b : Bool) → cond b Page Singular ≡ cond (not b) Singular Page
+      turned : (b : Bool) → ◌≡◌ {A = Result (Unit {0}) Unsolved} (cond b (Ok tt) (Err Singular)) (cond (not b) (Err Singular) (Ok tt))
       turned true = refl
       turned false = refl
 
-  pub solve_page_lem : singular n l rows ≡ false → (page : List ℕ) → solve_page Page n l list roles page ≡ over (flat l (page_of n l (picked_rows n rows))) page
+  pub solve_page_lem : singular n l rows ≡ false → (page : List ℕ) → solve_page (Ok tt) n l list roles page ≡ over (flat l (page_of n l (picked_rows n rows))) page
   unfolding solve_page singular
   solve_page_lem sound page =
       let free : independent (map (constraint l) (chosen roles (rows_of l list))) ≡ true =

@@ -1,22 +1,20 @@
 -- Bytes spelt in lower-case digits: what `spell` leaves in each case, and that a line reads back what was spelt.
 -- Assumes nothing.
-use mathlib.Core.Path.{◌≡◌, refl, sym, ap, ap₂, ◌∙◌}
+use mathlib.Core.Path.{◌≡◌, refl, ap, ap₂, ◌∙◌}
 use Prim.Native.Nat.{ℕ, zero, suc, ◌+◌, ◌*◌, ◌/◌, ◌%◌, ◌≤◌, ◌<◌}
 use native.Mathlib.Omega.{arith}
 use mathlib.Core.Bool.{Bool, true, false, cond, not}
 use mathlib.Core.List.{List, [], ◌∷◌}
 use lib.Dec.{ltb}
 use lib.ListN.{length, get_or, set}
-use borrow.Author.Tests.{lt-ltb, le-ltb, ltb-true, ltb-false, ne_eqb}
+use borrow.Author.Tests.{lt-ltb, le-ltb, ltb-true, ltb-false}
+use Rattle.std.proofs.Common.{None, Some}
 use Rattle.space.specs.Lists.{Below}
-use Rattle.octets.specs.Octets.{over}
-use Rattle.octets.proofs.Runs.{over_none}
 use Rattle.octets.proofs.Fill.{Filling, filling_more}
 use Rattle.text.specs.Hex.{digit, all_digits, pairs, bad}
-use Rattle.text.proofs.Digits.{digit_decimal, digit_lower}
+use Rattle.text.proofs.Digits.{digit_decimal, digit_lower, worth_digit}
 use Rattle.text.proofs.Unhexed.{bad-digits}
-use Rattle.spelling.specs.declared.Spelled.TheVariants.{Characters, Room}
-use Rattle.spelling.specs.Spelling.{letter, spelling, spelt, spelt_characters, spelt_text}
+use Rattle.spelling.specs.Spelling.{letter, spelling, spelt}
 
 -- ---- a digit
 
@@ -30,16 +28,16 @@ module _ (d : ℕ) where
   letter_lower h = rw (le-ltb d 10 h)
 
   -- read back
-  pub digit-letter : d < 16 → digit (letter d) ≡ d
+  pub digit-letter : d < 16 → digit (letter d) ≡ Some d
   digit-letter h = go (ltb d 10) refl
     where
-      go : (b : Bool) → ltb d 10 ≡ b → digit (letter d) ≡ d
+      go : (b : Bool) → ltb d 10 ≡ b → digit (letter d) ≡ Some d
       go true e =
           let low : d < 10 = ltb-true d 10 e in
-          rw (letter_decimal low) (digit_decimal (48 + d) (omega arith) (omega arith) ∙ omega arith)
+          rw (letter_decimal low) (digit_decimal (48 + d) (omega arith) (omega arith) ∙ ap Some (omega arith))
       go false e =
           let high : 10 ≤ d = ltb-false d 10 e in
-          rw (letter_lower high) (digit_lower (87 + d) (omega arith) (omega arith) ∙ omega arith)
+          rw (letter_lower high) (digit_lower (87 + d) (omega arith) (omega arith) ∙ ap Some (omega arith))
 
 -- ---- bytes
 
@@ -69,25 +67,15 @@ module _ (bytes old now : List ℕ) (i : ℕ) (fits : length bytes ≤ length ol
       let next : 2 * (i + 1) ≡ 2 * i + 1 + 1 = omega arith in
       rw next (more _ (2 * i + 1) (more now (2 * i) f (omega arith) _ at.0) (omega arith) _ at.1)
 
--- ---- the answer, and the text at exit
-
-module _ (bytes text : List ℕ) where
-  pub spell_room : length text / 2 < length bytes → (Room ≡ spelt (length bytes) (length text)) × (text ≡ spelt_text bytes text)
-  unfolding spelt spelt_text spelt_characters
-  spell_room h = rw (lt-ltb (length text / 2) (length bytes) h) (refl, sym (over_none text))
-
-  pub spell_characters : length bytes ≤ length text / 2
-      → (Characters (2 * length bytes) ≡ spelt (length bytes) (length text)) × (over (spelling bytes) text ≡ spelt_text bytes text)
-  unfolding spelt spelt_text spelt_characters
-  spell_characters h = rw (le-ltb (length text / 2) (length bytes) h) (refl, refl)
+-- ---- the answer
 
 -- how many characters were written
-pub characters_told : (count room k : ℕ) → spelt count room ≡ Characters k → k ≡ 2 * count
+pub characters_told : (count room k : ℕ) → spelt count room ≡ Some k → k ≡ 2 * count
 unfolding spelt
 characters_told count room k e = go (ltb (room / 2) count) e
   where
-    go : (b : Bool) → cond b Room (Characters (2 * count)) ≡ Characters k → k ≡ 2 * count
-    go true e = let z : ◌≡◌ {A = ℕ} 0 1 = cc in absurd (omega arith)
+    go : (b : Bool) → cond b None (Some (2 * count)) ≡ Some k → k ≡ 2 * count
+    go true e = absurd (cc)
     go false e = cc
 
 -- ---- read back
@@ -98,13 +86,15 @@ spelling-digits [] b = refl
 spelling-digits (x ∷ bytes) b =
     let high = digit-letter (x / 16) (omega arith) in
     let low = digit-letter (x % 16) (omega arith) in
-    rw (ne_eqb (digit (letter (x / 16))) 16 (λ e. omega arith), ne_eqb (digit (letter (x % 16))) 16 (λ e. omega arith)) (spelling-digits bytes b.1)
+    rw (high, low) (spelling-digits bytes b.1)
 
 pub pairs-spelling : (bytes : List ℕ) → Below 256 bytes → pairs (spelling bytes) ≡ bytes
 unfolding spelling pairs
 pairs-spelling [] b = refl
 pairs-spelling (x ∷ bytes) b =
-    ap₂ (λ y t. y ∷ t) (rw (digit-letter (x / 16) (omega arith), digit-letter (x % 16) (omega arith)) (omega arith)) (pairs-spelling bytes b.1)
+    let high = worth_digit _ _ (digit-letter (x / 16) (omega arith)) in
+    let low = worth_digit _ _ (digit-letter (x % 16) (omega arith)) in
+    ap₂ (λ y t. y ∷ t) (rw (high, low) (omega arith)) (pairs-spelling bytes b.1)
 
 -- What was spelt is a line again, if it isn't too long, and stands for the same bytes.
 pub bad-spelling : (bytes : List ℕ) → Below 256 bytes → length bytes ≤ 128 → bad (spelling bytes) ≡ false

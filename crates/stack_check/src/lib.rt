@@ -1,38 +1,13 @@
 // Making a row and writing a frame as functions of C, each by itself, so that the tests can read in compiled code how much stack it takes.
-// No app links them.
+// No app links them, and what they take is the C interface's.
 #![tactic(auto)]
 
 ghost use Rattle.std.specs.Prelude.{◌≡◌, length};
 ghost use Rattle.making.specs.Making as making;
 ghost use Rattle.writing.specs.Writing as writing;
 
-use making::Made;
-use writing::Written;
-
-fn number_made(answer: Made) -> u8
-    ensures { result ≡ making.number_of answer }
-{
-    match answer {
-        Made::Row => 0,
-        Made::Shape => 1,
-        Made::Room => 3,
-        Made::Stray => 4,
-        Made::Length => 8,
-    }
-}
-
-fn number_written(answer: Written) -> u8
-    ensures { result ≡ writing.number_of answer }
-{
-    match answer {
-        Written::Done => 0,
-        Written::Shape => 1,
-        Written::Room => 3,
-        Written::Length => 8,
-    }
-}
-
 // Makes a row at the start of room.
+#[tactic(auto, unfolding(making::specs::Making::number_of))]
 #[unsafe(no_mangle)]
 pub extern "C" fn stack_check_make(
     n: u8,
@@ -45,10 +20,13 @@ pub extern "C" fn stack_check_make(
     ensures number { result ≡ making.number_of (making.make_answer n l constraint (length page.now) (length room.old)) }
     ensures room { room.new ≡ making.make_room n l seed constraint page.now room.old }
 {
-    number_made(making::make(n, l, seed, constraint, page, room))
+    making::make(n, l, seed, constraint, page, room)
+        .err()
+        .map_or(0, u8::from)
 }
 
 // Writes a frame at the start of room.
+#[tactic(auto, unfolding(writing::specs::Writing::number_of))]
 #[unsafe(no_mangle)]
 pub extern "C" fn stack_check_write(
     page_number: u32,
@@ -62,5 +40,7 @@ pub extern "C" fn stack_check_write(
     ensures room { room.new ≡ writing.room_after (writing.write_answer n l page.now room.old)
         (writing.frame_of page_number n l seed page.now) room.old }
 {
-    number_written(writing::write(page_number, n, l, seed, page, room))
+    writing::write(page_number, n, l, seed, page, room)
+        .err()
+        .map_or(0, u8::from)
 }

@@ -2,18 +2,14 @@
 -- Assumes nothing.
 use mathlib.Core.Path.{◌≡◌}
 use mathlib.Core.List.{List}
-use Prim.Native.Nat.{ℕ, ◌≤◌, ◌<◌}
+use Prim.Native.Nat.{ℕ, ◌≤◌}
 use lib.ListN.{length, replicate}
-use borrow.Author.Tests.{le-leb, lt-leb}
+use borrow.Author.Tests.{le-leb}
 use Rattle.octets.specs.Octets.{over}
 use Rattle.state.specs.Layout.{order_at, state_bytes}
 use Rattle.state.specs.Written.{emptied}
 
 module _ (state : List ℕ) where
-  pub not_emptied : length state < state_bytes → state ≡ emptied state
-  unfolding emptied
-  not_emptied h = rw (lt-leb state_bytes (length state) h)
-
   pub emptied_is : state_bytes ≤ length state → emptied state ≡ over (replicate order_at 0) state
   unfolding emptied
   emptied_is h = rw (le-leb state_bytes (length state) h)

@@ -30,10 +30,7 @@ fn part(state: &[u8], at: usize, most: usize, n: usize) -> &[u8]
     ensures shows { result.now ≡ part at most n state.now }
     ensures points { result.ref_ptr ≡ (state.entry.ref_ptr.0, part_at at most n state.now + state.entry.ref_ptr.1) }
 {
-    if most < n {
-        return &state[..0];
-    }
-    if state.len() < BYTES {
+    if most < n || state.len() < BYTES {
         return &state[..0];
     }
     let end = at + 2 * n;
@@ -67,11 +64,11 @@ pub fn order(state: &[u8], taken: usize) -> &[u8]
 // ---- no rows
 
 // Makes the state empty; the order and the filter stay.
+#[tactic(auto, unfolding(crate::specs::Written::emptied, crate::specs::Layout::state_bytes))]
 pub fn clear(state: &mut [u8])
     ensures { state.new ≡ emptied state.old }
 {
-    if state.len() < BYTES {
-        return;
+    if BYTES <= state.len() {
+        state[..ORDER].fill(0);
     }
-    octets::clear(&mut state[..ORDER]);
 }

@@ -2,11 +2,13 @@
 -- other.
 -- Assumes nothing.
 use mathlib.Core.Path.{◌≡◌, sym, ap, ap₂, ◌∙◌}
-use mathlib.Core.List.{List}
-use Prim.Native.Nat.{ℕ, ◌≤◌}
+use mathlib.Core.List.{List, ◌++◌}
+use Prim.Native.Nat.{ℕ, ◌+◌, ◌-◌, ◌≤◌}
 use native.Mathlib.Omega.{arith}
 use lib.ListN.{length, take, drop}
+use lib.Seq.{take_all, length-take-le}
 use borrow.Rule.Slice.PartMut.{put_mid}
+use Rattle.std.proofs.lemmas.List.{drop-take}
 use Rattle.octets.specs.Octets.{lay}
 use Rattle.octets.proofs.Lay.{length-lay, part-lay, part-before, part-after}
 use Rattle.octets.proofs.Parts.{back}
@@ -40,6 +42,19 @@ module _ (store : List ℕ) (long : store_bytes ≤ length store) where
   pub working-back : (at k : ℕ) (new : List ℕ) → at ≡ working_at → length new ≡ k → put_mid at k store new ≡ with_working new store
   unfolding with_working
   working-back at k new e size = back at k new store size ∙ ap (λ (i : ℕ). lay i new store) e
+
+  -- ---- cut at the working: the list lies in front of the cut, and the working begins there
+
+  pub list_cut : (front : List ℕ) → front ≡ take working_at store → take (length front - list_at) (drop list_at front) ≡ list_in store
+  list_cut front e =
+      let to : working_at ≡ list_at + list_room = omega (arith, sizes) in
+      let cut : drop list_at front ≡ list_in store = ap (drop list_at) (e ∙ ap (λ (k : ℕ). take k store) to) ∙ drop-take list_at list_room store ∙ sym (list_in_lem store long) in
+      let size : length front ≡ working_at = ap length e ∙ length-take-le working_at store (omega (arith, sizes)) in
+      ap (take (length front - list_at)) cut ∙ take_all (length front - list_at) (list_in store) (omega (arith, sizes, length-list))
+
+  pub working_cut : (front back new : List ℕ) → front ≡ take working_at store → back ≡ drop working_at store → length new ≡ state_bytes → front ++ (new ++ drop state_bytes back) ≡ with_working new store
+  unfolding with_working lay
+  working_cut front back new f b size = rw (f, b, size)
 
 -- ---- the list written anew
 

@@ -56,17 +56,24 @@ rank_in store = pair_at rank_place store
 unfoldable pub is_store : List ℕ → Bool
 is_store store = leb store_bytes (length store)
 
+-- Some bytes of a store from one place on.
+unfoldable pub part_start : ℕ → List ℕ → ℕ
+part_start at store = cond (is_store store) at 0
+
+unfoldable pub part_in : ℕ → ℕ → List ℕ → List ℕ
+part_in at size store = take (cond (is_store store) size 0) (drop (part_start at store) store)
+
 unfoldable pub list_start : List ℕ → ℕ
-list_start store = cond (is_store store) list_at 0
+list_start store = part_start list_at store
 
 unfoldable pub list_in : List ℕ → List ℕ
-list_in store = take (cond (is_store store) list_room 0) (drop (list_start store) store)
+list_in store = part_in list_at list_room store
 
 unfoldable pub working_start : List ℕ → ℕ
-working_start store = cond (is_store store) working_at 0
+working_start store = part_start working_at store
 
 unfoldable pub working_in : List ℕ → List ℕ
-working_in store = take (cond (is_store store) state_bytes 0) (drop (working_start store) store)
+working_in store = part_in working_at state_bytes store
 
 -- A store with its list, or its working, written anew.
 unfoldable pub with_list : List ℕ → List ℕ → List ℕ

@@ -10,6 +10,7 @@ use lib.Dec.{leb}
 use lib.ListN.{length, take, length-take, length-replicate}
 use borrow.Author.Tests.{leb-true}
 use Rattle.space.proofs.Both.{both}
+use Rattle.std.proofs.Common.{Result, Ok, Err}
 use Rattle.rows.specs.Rows.{list_row_bytes, row_count}
 use Rattle.reading.specs.Answer.{answer_numbers}
 use Rattle.reading.specs.Orders.{among}
@@ -17,9 +18,10 @@ use Rattle.reading.specs.Outcome.{Lent, Outcome, room_for, zeros, scratch_bytes}
 use Rattle.state.specs.Layout.{uses_part}
 use Rattle.tail.specs.Tail.{choice_in, roles_in, finished}
 use Rattle.store.specs.declared.Head.{Head}
-use Rattle.store.specs.declared.Header.{Header}
-use Rattle.store.specs.declared.Header.TheVariants as header
+use Rattle.store.specs.declared.Refusal.{Refusal}
+use Rattle.store.specs.declared.Refusal.TheVariants.{Short, OutOfRange}
 use Rattle.store.specs.Store.{n_in, l_in, rows_in, list_in, working_in}
+use Rattle.store.specs.Header as store-header
 use Rattle.store.specs.Header.{head_in, header_of}
 use Rattle.asking.specs.Asking.{numbers_of, lending, list_of, ended, answered, asked_by, asked}
 use Rattle.store.proofs.Checked.{good_means}
@@ -105,28 +107,28 @@ module _ (store page uses roles scratch : List ℕ) where
   number = (numbers_of (asked store page uses roles scratch).answer).number
 
   -- past the header check a call answers and writes as one of a reading does
-  past : (h : Head) → header_of store ≡ header.Good h → Answers h store page uses roles scratch (answered h store page uses roles scratch)
+  past : (h : Head) → header_of store ≡ Ok h → Answers h store page uses roles scratch (answered h store page uses roles scratch)
   past h e = answers h store page uses roles scratch (room h store page uses roles scratch) refl
 
   -- ---- the numbers
 
   -- "asking gives 3 for the store, 10, 3 for the rest, then 5 to 7": or 0
   pub asked-any : among (3 ∷ 10 ∷ 5 ∷ 6 ∷ 7 ∷ 0 ∷ []) number ≡ true
-  unfolding asked asked_by numbers_of among
+  unfolding asked asked_by numbers_of store-header.number_of among
   asked-any = go (header_of store) refl
     where
-      go : (h : Header) → header_of store ≡ h → among (3 ∷ 10 ∷ 5 ∷ 6 ∷ 7 ∷ 0 ∷ []) (numbers_of (asked_by h store page uses roles scratch).answer).number ≡ true
-      go header.Short e = refl
-      go header.OutOfRange e = refl
-      go (header.Good h) e = (past h e).any
+      go : (h : Result Head Refusal) → header_of store ≡ h → among (3 ∷ 10 ∷ 5 ∷ 6 ∷ 7 ∷ 0 ∷ []) (numbers_of (asked_by h store page uses roles scratch).answer).number ≡ true
+      go (Err Short) e = refl
+      go (Err OutOfRange) e = refl
+      go (Ok h) e = (past h e).any
 
   -- past the header check and with room, 5, 6, 7 or 0
-  pub asked-late : (h : Head) → header_of store ≡ header.Good h → room_for (h.n * h.l) h.rows (length page) (length uses / 2) (length roles) (length scratch) ≡ true
+  pub asked-late : (h : Head) → header_of store ≡ Ok h → room_for (h.n * h.l) h.rows (length page) (length uses / 2) (length roles) (length scratch) ≡ true
       → among (5 ∷ 6 ∷ 7 ∷ 0 ∷ []) number ≡ true
   unfolding asked asked_by numbers_of
   asked-late h e r = go (header_of store) e
     where
-      go : (x : Header) → x ≡ header.Good h → among (5 ∷ 6 ∷ 7 ∷ 0 ∷ []) (numbers_of (asked_by x store page uses roles scratch).answer).number ≡ true
+      go : (x : Result Head Refusal) → x ≡ Ok h → among (5 ∷ 6 ∷ 7 ∷ 0 ∷ []) (numbers_of (asked_by x store page uses roles scratch).answer).number ≡ true
       go x q = rw q ((past h e).late r)
 
   -- ---- the buffers
@@ -136,21 +138,21 @@ module _ (store page uses roles scratch : List ℕ) where
   unfolding asked asked_by numbers_of
   asked-refused = go (header_of store) refl
     where
-      go : (h : Header) → header_of store ≡ h → among (3 ∷ 10 ∷ []) (numbers_of (asked_by h store page uses roles scratch).answer).number ≡ true
+      go : (h : Result Head Refusal) → header_of store ≡ h → among (3 ∷ 10 ∷ []) (numbers_of (asked_by h store page uses roles scratch).answer).number ≡ true
           → (asked_by h store page uses roles scratch).lent ≡ lending page uses roles scratch
-      go header.Short e z = refl
-      go header.OutOfRange e z = refl
-      go (header.Good h) e z = (past h e).refused z
+      go (Err Short) e z = refl
+      go (Err OutOfRange) e z = refl
+      go (Ok h) e z = (past h e).refused z
 
   -- "Only 0 writes the page"
   pub asked-page : (number ≡ 0 → ⊥) → (asked store page uses roles scratch).lent.page ≡ page
   unfolding asked asked_by numbers_of
   asked-page = go (header_of store) refl
     where
-      go : (h : Header) → header_of store ≡ h → ((numbers_of (asked_by h store page uses roles scratch).answer).number ≡ 0 → ⊥) → (asked_by h store page uses roles scratch).lent.page ≡ page
-      go header.Short e z = refl
-      go header.OutOfRange e z = refl
-      go (header.Good h) e z = (past h e).page-stays z
+      go : (h : Result Head Refusal) → header_of store ≡ h → ((numbers_of (asked_by h store page uses roles scratch).answer).number ≡ 0 → ⊥) → (asked_by h store page uses roles scratch).lent.page ≡ page
+      go (Err Short) e z = refl
+      go (Err OutOfRange) e z = refl
+      go (Ok h) e z = (past h e).page-stays z
 
   -- whatever is written stays within what a reading of that many rows writes
   pub asked-within : WithinLent store (lending page uses roles scratch) (asked store page uses roles scratch).lent
@@ -165,10 +167,9 @@ module _ (store page uses roles scratch : List ℕ) where
         scratch = same_within scratch_bytes scratch;
       }
 
-      go : (h : Header) → header_of store ≡ h → WithinLent store (lending page uses roles scratch) (asked_by h store page uses roles scratch).lent
-      go header.Short e = nothing
-      go header.OutOfRange e = nothing
-      go (header.Good h) e =
+      go : (h : Result Head Refusal) → header_of store ≡ h → WithinLent store (lending page uses roles scratch) (asked_by h store page uses roles scratch).lent
+      go (Err refusal) e = nothing
+      go (Ok h) e =
           let same = (good_means store h e).is in
           let A = past h e in
           record {

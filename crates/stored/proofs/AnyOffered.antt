@@ -1,7 +1,7 @@
 -- Opening and offering on any bytes: which numbers they give, and that nothing behind the first 65,536 bytes changes. By the header, and by the lengths of
 -- what each step writes.
 -- Assumes nothing.
-use mathlib.Core.Path.{◌≡◌, refl, ◌∙◌}
+use mathlib.Core.Path.{◌≡◌, refl, sym, ◌∙◌}
 use Prim.Native.Nat.{ℕ, ◌+◌, ◌*◌, ◌≤◌}
 use native.Mathlib.Nat.{mul-le-mul_left}
 use native.Mathlib.Omega.{arith}
@@ -10,6 +10,7 @@ use mathlib.Core.List.{List, [], ◌∷◌}
 use lib.Dec.{eqb, ltb}
 use lib.ListN.{length}
 use borrow.Author.Tests.{eqb-true, eqb-false, ltb-true, ltb-false, leb-true}
+use Rattle.std.proofs.Common.{Result, Ok, Err}
 use Rattle.octets.specs.Octets.{number, lay}
 use Rattle.octets.proofs.Lay.{length-lay}
 use Rattle.rows.specs.Rows.{shape, list_row_bytes}
@@ -27,14 +28,15 @@ use Rattle.frame.specs.declared.Frame.TheVariants as frames
 use Rattle.frame.specs.Reading.{reading}
 use Rattle.frame.specs.Numbers as frame
 use Rattle.frame.proofs.Tests.{either}
-use Rattle.laying.specs.declared.Laid.TheVariants as laids
+use Rattle.laying.specs.declared.Refusal.TheVariants as laids
 use Rattle.laying.specs.Laying.{laid, placing, same_page, frame_entry, list_after}
 use Rattle.laying.specs.Laying as laying
 use Rattle.laying.proofs.Laying.{laid_zero, placing_full, placing-row}
 use Rattle.store.specs.declared.Head.{Head}
-use Rattle.store.specs.declared.Header.{Header}
-use Rattle.store.specs.declared.Header.TheVariants as header
+use Rattle.store.specs.declared.Refusal as header
+use Rattle.store.specs.declared.Refusal.TheVariants.{Short, OutOfRange}
 use Rattle.store.specs.Store.{store_bytes, list_at, working_at, list_room, is_store, list_in, working_in, with_list, with_working}
+use Rattle.store.specs.Header as store-header
 use Rattle.store.specs.Header.{header_of}
 use Rattle.noticing.specs.Noticing.{seed_in, is_repeat, noticed}
 use Rattle.newest.specs.Newest.{counted_in, admission, admitted, taken_by, newest_taken}
@@ -47,7 +49,7 @@ use Rattle.whole.proofs.Parts.{counted-long, counted-behind}
 use Rattle.store.proofs.Checked.{good_means}
 use Rattle.whole.proofs.Accepted.{row_room, entry-long}
 use Rattle.whole.proofs.Opened.{open_shapeless, open_short, opened-long, opened-behind}
-use Rattle.whole.proofs.Refused.{refused_offer}
+use Rattle.whole.proofs.Refused.{laying-number, refused_offer}
 use Rattle.stored.specs.Others.{Within}
 use Rattle.stored.proofs.Within.{same_within, then_within, lay-within}
 
@@ -77,7 +79,7 @@ unfolding laid laying.number_of among
 laid-late bytes page n l rows list s room = rw s (go (frame.is_good (reading bytes)) refl (same_page (reading bytes) page n l) (ltb 511 rows) refl)
   where
     go : (g : Bool) → frame.is_good (reading bytes) ≡ g → (o full : Bool) → ltb 511 rows ≡ full
-        → IsLate (laying.number_of (cond (not g) (laids.Refused (reading bytes)) (cond (not o) laids.OtherPage (placing l rows list))))
+        → IsLate (laying.number_of (cond (not g) (Err (laids.Frame (reading bytes))) (cond (not o) (Err laids.OtherPage) (placing l rows list))))
     go false e o full f = frame-late (reading bytes) e
     go true e false full f = (refl, refl)
     go true e true true f = rw (placing_full l rows list (ltb-true 511 rows f)) (refl, refl)
@@ -85,7 +87,7 @@ laid-late bytes page n l rows list s room = rw s (go (frame.is_good (reading byt
 
 module _ (bytes store : List ℕ) where
   -- the list of a store has room for 512 rows, so past the header check there is no 3
-  good-late : (h : Head) → header_of store ≡ header.Good h → IsLate (laying.number_of (laid_in bytes h store))
+  good-late : (h : Head) → header_of store ≡ Ok h → IsLate (laying.number_of (laid_in bytes h store))
   unfolding laid_in
   good-late h e =
       let g = good_means store h e in
@@ -94,19 +96,19 @@ module _ (bytes store : List ℕ) where
       (λ few. omega (arith, size, sizes, (shape_range h.n h.l g.shaped).l_high, mul-le-mul_left (list_row_bytes h.l) few))
 
   -- "11 to 16, then 2 at the 513th row": or 0
-  pub offered-late : (h : Head) → header_of store ≡ header.Good h → among (0 ∷ 2 ∷ 11 ∷ 12 ∷ 13 ∷ 14 ∷ 15 ∷ 16 ∷ []) (number_of (offer_answer bytes store)) ≡ true
-  unfolding offer_answer answer_by number_of
-  offered-late h e = rw e (good-late h e).0
+  pub offered-late : (h : Head) → header_of store ≡ Ok h → among (0 ∷ 2 ∷ 11 ∷ 12 ∷ 13 ∷ 14 ∷ 15 ∷ 16 ∷ []) (number_of (offer_answer bytes store)) ≡ true
+  unfolding offer_answer answer_by
+  offered-late h e = rw (e, laying-number (laid_in bytes h store)) (good-late h e).0
 
   -- "3, 10 .., 11 to 16, then 2": or 0
   pub offer_numbers : among (0 ∷ 2 ∷ 3 ∷ 10 ∷ 11 ∷ 12 ∷ 13 ∷ 14 ∷ 15 ∷ 16 ∷ []) (number_of (offer_answer bytes store)) ≡ true
-  unfolding offer_answer answer_by number_of among
+  unfolding offer_answer answer_by number_of store-header.number_of among
   offer_numbers = go (header_of store) refl
     where
-      go : (h : Header) → header_of store ≡ h → among any (number_of (answer_by h bytes store)) ≡ true
-      go header.Short e = refl
-      go header.OutOfRange e = refl
-      go (header.Good h) e = (good-late h e).1
+      go : (h : Result Head header.Refusal) → header_of store ≡ h → among any (number_of (answer_by h bytes store)) ≡ true
+      go (Err Short) e = refl
+      go (Err OutOfRange) e = refl
+      go (Ok h) e = rw (laying-number (laid_in bytes h store)) (good-late h e).1
 
 -- ---- what stands behind a store stays
 
@@ -159,10 +161,9 @@ pub newest_within : (store : List ℕ) → Within store_bytes store (newest_take
 unfolding newest_taken taken_by
 newest_within store = go (header_of store) refl
   where
-    go : (h : Header) → header_of store ≡ h → Within store_bytes store (taken_by h store)
-    go header.Short e = same_within store_bytes store
-    go header.OutOfRange e = same_within store_bytes store
-    go (header.Good h) e =
+    go : (h : Result Head header.Refusal) → header_of store ≡ h → Within store_bytes store (taken_by h store)
+    go (Err refusal) e = same_within store_bytes store
+    go (Ok h) e =
         let long = (good_means store h e).long in
         let seen = noticed h.l h.rows store in
         let v = noticed-within store long h.l h.rows in
@@ -170,12 +171,12 @@ newest_within store = go (header_of store) refl
         either (Within store_bytes store) (is_repeat h.l h.rows store) (counted_in (h.rows + 1) h.taken h.rank seen) (admitted h seen)
         (λ c. then_within store_bytes store seen _ v (counted-within seen still (h.rows + 1) h.taken h.rank)) (λ c. then_within store_bytes store seen _ v (admitted-within seen still h))
 
-laid-within : (bytes store : List ℕ) (h : Head) → header_of store ≡ header.Good h → laying.number_of (laid_in bytes h store) ≡ 0
+laid-within : (bytes store : List ℕ) (h : Head) → header_of store ≡ Ok h → laying.number_of (laid_in bytes h store) ≡ 0
     → Within store_bytes store (taken_after (laid_in bytes h store) (laid_store bytes h store))
 unfolding laid_store laid_in taken_after list_after
 laid-within bytes store h e z =
     let long = (good_means store h e).long in
-    let row : laid bytes h.page h.n h.l h.rows (list_in store) ≡ laids.Row = laid_zero bytes h.page h.n h.l h.rows (list_in store) z in
+    let row : laid bytes h.page h.n h.l h.rows (list_in store) ≡ Ok tt = laid_zero bytes h.page h.n h.l h.rows (list_in store) z in
     let at = list_row_bytes h.l * h.rows in
     let list = lay at (frame_entry bytes) (list_in store) in
     let size : length list ≡ list_room =
@@ -189,10 +190,9 @@ pub offered-within : (bytes store : List ℕ) → Within store_bytes store (offe
 unfolding offer_answer answer_by offered_store after_by number_of
 offered-within bytes store = go (eqb (number_of (offer_answer bytes store)) 0) refl
   where
-    accepted : (h : Header) → header_of store ≡ h → number_of (answer_by h bytes store) ≡ 0 → Within store_bytes store (after_by h bytes store)
-    accepted header.Short e z = same_within store_bytes store
-    accepted header.OutOfRange e z = same_within store_bytes store
-    accepted (header.Good h) e z = laid-within bytes store h e z
+    accepted : (h : Result Head header.Refusal) → header_of store ≡ h → number_of (answer_by h bytes store) ≡ 0 → Within store_bytes store (after_by h bytes store)
+    accepted (Err refusal) e z = same_within store_bytes store
+    accepted (Ok h) e z = laid-within bytes store h e (sym (laying-number (laid_in bytes h store)) ∙ z)
 
     go : (b : Bool) → eqb (number_of (offer_answer bytes store)) 0 ≡ b → Within store_bytes store (offered_store bytes store)
     go true e = accepted (header_of store) refl (eqb-true (number_of (offer_answer bytes store)) 0 e)

@@ -30,8 +30,7 @@ use Rattle.crossing.proofs.Flipped.{entry_taken, taken_own}
 use Rattle.crossing.proofs.Demand3.{crossing-3}
 use Rattle.store.specs.Store.{store_bytes, list_room}
 use Rattle.opening.specs.Opening.{opened_store}
-use Rattle.asking.specs.declared.Asked.TheVariants as said
-use Rattle.asking.specs.Asking.{Asking, numbers_of, lending, asked}
+use Rattle.asking.specs.Asking.{said, Asking, numbers_of, lending, asked}
 use Rattle.store.proofs.Sizes.{sizes}
 use Rattle.stored.specs.Calls.{offerings, AreCalls, OthersBytes, after_all, Account, opened, next, next_all, accepted}
 use Rattle.stored.specs.Added.{added_asking}
@@ -71,16 +70,16 @@ module _ (store : List ℕ) (long : store_bytes ≤ length store) (number n l : 
     abbrev said_of : Account → Asking
     said_of a =
         let o = in_pairs a.n a.l (accepted a) (lending page₀ uses₀ roles₀ scratch₀) in
-        record { answer = said.Rows o.answer a.held.rows; lent = o.lent }
+        record { answer = said o.answer a.held.rows; lent = o.lent }
 
     offered-asked : let o = outcome n l (list_laid number n l frames room) (counted (lending page₀ uses₀ roles₀ scratch₀)) in
         asked (after_all (offerings frames) (opened_store number n l store)) page₀ uses₀ roles₀ scratch₀
-        ≡ record { answer = said.Rows o.answer (length entries); lent = paired uses₀ o.lent }
+        ≡ record { answer = said o.answer (length entries); lent = paired uses₀ o.lent }
     unfolding accepted list_laid in_pairs
     offered-asked =
         let o = outcome n l (list_laid number n l frames room) (counted (lending page₀ uses₀ roles₀ scratch₀)) in
         stored-asked store long number n l small s (offerings frames) are page₀ uses₀ roles₀ scratch₀ low ∙ ap said_of account
-        ∙ ap (λ (rows : ℕ). record { answer = said.Rows o.answer rows; lent = paired uses₀ o.lent }) rows_are
+        ∙ ap (λ (rows : ℕ). record { answer = said o.answer rows; lent = paired uses₀ o.lent }) rows_are
 
   -- ---- demand 2
 
@@ -93,7 +92,7 @@ module _ (store : List ℕ) (long : store_bytes ≤ length store) (number n l : 
       let given = answer.Page n (marked (counts (own_of caught))) in
       asked (after_all (offerings (frames_of (λ seed. frame_of number n l seed page) caught)) (opened_store number n l store)) page₀ uses₀ roles₀ scratch₀
       ≡ record {
-        answer = said.Rows given (length (own_of caught));
+        answer = said given (length (own_of caught));
         lent = paired uses₀ (ended n l entries (in_list_order entries) (counted (lending page₀ uses₀ roles₀ scratch₀)) given telling page).lent;
       }
   unfolding entries_for ended
@@ -104,7 +103,7 @@ module _ (store : List ℕ) (long : store_bytes ≤ length store) (number n l : 
       (caught_calls number n l (λ seed. frame_of number n l seed page) IsSeed (λ seed h. frame_low number n l page s seed) caught m others) entries
       (crossed-list number n l page small s size b caught m most room (room-512 (length (own_of caught)) most))
       page₀ uses₀ roles₀ scratch₀ low
-      ∙ ap (λ (o : Outcome). record { answer = said.Rows o.answer (length entries); lent = paired uses₀ o.lent })
+      ∙ ap (λ (o : Outcome). record { answer = said o.answer (length entries); lent = paired uses₀ o.lent })
       (crossing-2 number n l page small s size b caught m most room (room-512 (length (own_of caught)) most) lent roomed enough)
       ∙ rw (length-map (own_of caught) (λ seed. entered l seed (row_for n l page seed)))
 
@@ -120,14 +119,14 @@ module _ (store : List ℕ) (long : store_bytes ≤ length store) (number n l : 
   unfolding added_asking added gave numbers_of
   stored-3 p q sp sq bp bq caught m most others page₀ uses₀ roles₀ scratch₀ low roomed =
       after q bq
-      ∙ ap (λ (o : Outcome). record { answer = said.Rows o.answer (length (own_of caught)); lent = paired uses₀ o.lent })
+      ∙ ap (λ (o : Outcome). record { answer = said o.answer (length (own_of caught)); lent = paired uses₀ o.lent })
       (crossing-3 number n l small s p q sp sq bp bq caught m most room (room-512 (length (own_of caught)) most) (counted (lending page₀ uses₀ roles₀ scratch₀)) roomed)
       ∙ ap (added_asking (xor_bytes p q)) (sym (after p bp))
     where
       after : (w : List ℕ) → Below 256 w
           → let o = outcome n l (list_laid number n l (frames_of (taken number n l w) caught) room) (counted (lending page₀ uses₀ roles₀ scratch₀)) in
           asked (after_all (offerings (frames_of (taken number n l w) caught)) (opened_store number n l store)) page₀ uses₀ roles₀ scratch₀
-          ≡ record { answer = said.Rows o.answer (length (own_of caught)); lent = paired uses₀ o.lent }
+          ≡ record { answer = said o.answer (length (own_of caught)); lent = paired uses₀ o.lent }
       after w bw =
           offered-asked (frames_of (taken number n l w) caught) (caught_calls number n l (taken number n l w) (IsTake l) (taken_low number n l w s) caught m others) (map (entry_taken n l w) (own_of caught))
           (caught_list number n l (taken number n l w) (entry_taken n l w) (IsTake l) (λ t right. taken_own number n l w small s bw t right) s caught m most room (room-512 (length (own_of caught)) most))

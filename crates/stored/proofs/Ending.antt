@@ -8,6 +8,7 @@ use mathlib.Core.List.{List, [], ◌∷◌}
 use lib.Dec.{leb}
 use lib.ListN.{length, take, drop, length-take, length-map}
 use borrow.Author.Tests.{leb-true}
+use Rattle.std.proofs.Common.{Result, Ok, Err}
 use Rattle.space.proofs.Lists.{length-tabulate}
 use Rattle.octets.specs.Octets.{flat, over}
 use Rattle.octets.proofs.Runs.{length-flat}
@@ -20,13 +21,13 @@ use Rattle.reading.specs.Answer.{answer_numbers}
 use Rattle.reading.specs.Reading.{page_of}
 use Rattle.reading.specs.Orders.{among}
 use Rattle.state.specs.Layout.{part, has_part, part_at, places_at, places_part}
-use Rattle.choose.specs.declared.Choice.{Choice}
-use Rattle.choose.specs.declared.Choice.TheVariants.{Few, Tie, Picked}
+use Rattle.choose.specs.declared.Unpicked.{Unpicked}
+use Rattle.choose.specs.declared.Unpicked.TheVariants.{Few, Tie}
 use Rattle.marks.specs.Mark.{uses_of, uses_marked, pairs_after}
 use Rattle.roles.specs.Role.{role_of, roles_marked, roles_after, least_marked}
 use Rattle.chosen.specs.Chosen.{chosen}
-use Rattle.solve.specs.declared.Solved.{Solved}
-use Rattle.solve.specs.declared.Solved.TheVariants as solved
+use Rattle.solve.specs.declared.Unsolved.{Unsolved}
+use Rattle.solve.specs.declared.Unsolved.TheVariants.{Singular, Misfit}
 use Rattle.solve.specs.Solve.{solve_answer, solve_page, solve_slots}
 use Rattle.tail.specs.Tail.{Ending, choice_in, roles_in, settled_by, settled, concluded, finished}
 use Rattle.tail.proofs.Endings.{page-fits}
@@ -64,7 +65,7 @@ pairs-within rows state counts uses =
         let each : length (uses_marked places counts) ≡ length (pairs_in places) = unfold uses_marked in length-map (pairs_in places) (λ x. uses_of counts (given_by x)) in
         length-flat 2 (uses_marked places counts) ∙ ap (λ (m : ℕ). m * 2) (each ∙ length_pairs places)
 
-pub roles-within : (choice : Choice) (rows : ℕ) (state counts roles : List ℕ) → Within rows roles (roles_after choice (places_part rows state) counts roles)
+pub roles-within : (choice : Result ℕ Unpicked) (rows : ℕ) (state counts roles : List ℕ) → Within rows roles (roles_after choice (places_part rows state) counts roles)
 unfolding roles_after
 roles-within choice rows state counts roles =
     marked-within rows (length places / 2) (length roles) (roles_marked (least_marked choice) places counts) roles (omega (arith, long, places-long rows state)) (λ h. omega (arith, long))
@@ -92,10 +93,10 @@ pub record Ends (n l : ℕ) (page : List ℕ) (e : Ending) : Type 0 where
   pub page-within : Within (n * l) page e.page
 
 module _ (n l : ℕ) (list : List ℕ) (taken rank : ℕ) where
-  settled-ends : (s : Solved) (roles state page : List ℕ) → s ≡ solve_answer n l list roles state page
+  settled-ends : (s : Result Unit Unsolved) (roles state page : List ℕ) → s ≡ solve_answer n l list roles state page
       → Ends n l page (settled_by s rank n l list taken (solve_slots s state) (solve_page s n l list roles page))
   unfolding settled_by solve_page answer_numbers among page_of
-  settled-ends solved.Page roles state page e =
+  settled-ends (Ok done) roles state page e =
       let rows = chosen roles (rows_of l list) in
       let long : length (flat l (page_of n l rows)) ≡ n * l = length-flat l (page_of n l rows) ∙ ap (λ (m : ℕ). m * l) (length-tabulate n _) in
       record {
@@ -103,16 +104,16 @@ module _ (n l : ℕ) (list : List ℕ) (taken rank : ℕ) where
         late = refl;
         no_refusal = refl;
         page-stays = λ z. absurd (z refl);
-        page-within = over-within (n * l) (flat l (page_of n l rows)) page (omega (arith, long)) (omega (arith, long, page-fits rank n l list taken roles state page e));
+        page-within = over-within (n * l) (flat l (page_of n l rows)) page (omega (arith, long)) (omega (arith, long, page-fits n l list roles state page e));
       }
-  settled-ends solved.Singular roles state page e = record { any = refl; late = refl; no_refusal = refl; page-stays = λ z. refl; page-within = same_within (n * l) page }
-  settled-ends solved.Misfit roles state page e = record { any = refl; late = refl; no_refusal = refl; page-stays = λ z. refl; page-within = same_within (n * l) page }
+  settled-ends (Err Singular) roles state page e = record { any = refl; late = refl; no_refusal = refl; page-stays = λ z. refl; page-within = same_within (n * l) page }
+  settled-ends (Err Misfit) roles state page e = record { any = refl; late = refl; no_refusal = refl; page-stays = λ z. refl; page-within = same_within (n * l) page }
 
-  concluded-ends : (choice : Choice) (roles state page : List ℕ) → Ends n l page (concluded choice rank n l list taken roles state page)
+  concluded-ends : (choice : Result ℕ Unpicked) (roles state page : List ℕ) → Ends n l page (concluded choice rank n l list taken roles state page)
   unfolding concluded settled answer_numbers among
-  concluded-ends Few roles state page = record { any = refl; late = refl; no_refusal = refl; page-stays = λ z. refl; page-within = same_within (n * l) page }
-  concluded-ends Tie roles state page = record { any = refl; late = refl; no_refusal = refl; page-stays = λ z. refl; page-within = same_within (n * l) page }
-  concluded-ends (Picked least) roles state page = settled-ends (solve_answer n l list roles state page) roles state page refl
+  concluded-ends (Err Few) roles state page = record { any = refl; late = refl; no_refusal = refl; page-stays = λ z. refl; page-within = same_within (n * l) page }
+  concluded-ends (Err Tie) roles state page = record { any = refl; late = refl; no_refusal = refl; page-stays = λ z. refl; page-within = same_within (n * l) page }
+  concluded-ends (Ok least) roles state page = settled-ends (solve_answer n l list roles state page) roles state page refl
 
   pub finished-ends : (state roles page : List ℕ) → Ends n l page (finished n l list taken rank state roles page)
   unfolding finished

@@ -12,8 +12,7 @@ use Rattle.reader.specs.Pairs.{in_pairs}
 use Rattle.crossing.specs.Held.{list_held}
 use Rattle.store.specs.Store.{store_bytes, taken_in, rank_in, working_in}
 use Rattle.opening.specs.Opening.{opened_store}
-use Rattle.asking.specs.declared.Asked.TheVariants as said
-use Rattle.asking.specs.Asking.{lending, asked}
+use Rattle.asking.specs.Asking.{said, lending, asked}
 use Rattle.current.proofs.Held.{held-count}
 use Rattle.whole.specs.Whole.{Whole}
 use Rattle.whole.proofs.Opened.{opened-whole, open_shapeless}
@@ -69,7 +68,7 @@ module _ (store : List ℕ) (long : store_bytes ≤ length store) (page n l : �
   pub stored-asked : (page₀ uses₀ roles₀ scratch₀ : List ℕ) → Below 256 uses₀
       → let s = next_all calls (opened page n l) in
       let o = in_pairs s.n s.l (accepted s) (lending page₀ uses₀ roles₀ scratch₀) in
-      asked (after_all calls (opened_store page n l store)) page₀ uses₀ roles₀ scratch₀ ≡ record { answer = said.Rows o.answer s.held.rows; lent = o.lent }
+      asked (after_all calls (opened_store page n l store)) page₀ uses₀ roles₀ scratch₀ ≡ record { answer = said o.answer s.held.rows; lent = o.lent }
   unfolding accepted
   stored-asked page₀ uses₀ roles₀ scratch₀ low =
       let s = next_all calls (opened page n l) in

@@ -8,16 +8,14 @@ ghost use Rattle.rows.specs.Bytes.{cut};
 
 // Adds to into each symbol of page that a bit of names stands for; a symbol is as long as into.
 fn add_named(into: &mut [u8], page: &[u8], names: u64)
-    requires { (0 < length into.old) × (names < 2 ^ (length page.now / length into.old)) }
+    requires some { 0 < length into.old }
+    requires inside { names < 2 ^ (length page.now / length into.old) }
     ensures { into.new ≡ xor_bytes into.old (bytes (length into.old) (named (cut (length into.old) page.now) names)) }
 {
     let l = into.len();
-    let mut rest = names;
-    while 0 < rest {
-        let start = bits::bottom(rest) * l;
-        let end = start + l;
-        octets::add(into, &page[start..end]);
-        rest = bits::without_bottom(rest);
+    for bit in bits::set_bits(names) {
+        let start = bit * l;
+        octets::add(into, &page[start..start + l]);
     }
 }
 

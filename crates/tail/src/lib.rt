@@ -2,13 +2,14 @@
 #![tactic(auto)]
 
 ghost use Rattle.std.specs.Prelude.{◌≡◌};
-ghost use Rattle.tail.specs.Tail.{ends, settled, concluded, roles_in, finished};
+ghost use Rattle.tail.specs.Tail.{ends, settled, roles_in, finished};
 
-use choose::Choice;
+use choose::Unpicked;
 use reading::Answer;
-use solve::Solved;
 
 // Where n rows are picked: the page and the agreement, or singular.
+// Its first five parameters are those of `finish`, passed on in this one call: a struct of them would be built for it alone.
+#[tactic(auto, using(crate::proofs::Endings::settling), unfolding(crate::specs::Tail::settled_by, crate::specs::Tail::settled))]
 fn settle(
     rank: usize,
     n: u8,
@@ -22,38 +23,17 @@ fn settle(
     ensures { ends result state.new page.new ≡ settled rank n l list.now taken roles.now state.old page.old }
 {
     match solve::solve(n, l, list, roles, state, page) {
-        Solved::Page => {
+        Ok(()) => {
             let end = n as usize * l as usize;
             let agreement = agreement::agreement(l, list, state::order(state, taken), &page[..end]);
             Answer::Page { rank, agreement }
         }
-        Solved::Singular => Answer::Singular { rank },
-        Solved::Misfit => Answer::Singular { rank },
-    }
-}
-
-// What the choice comes to.
-fn conclude(
-    choice: Choice,
-    rank: usize,
-    n: u8,
-    l: u8,
-    list: &[u8],
-    taken: usize,
-    roles: &[u8],
-    state: &mut [u8],
-    page: &mut [u8],
-) -> Answer
-    ensures { ends result state.new page.new ≡ concluded choice rank n l list.now taken roles.now state.old page.old }
-{
-    match choice {
-        Choice::Few => Answer::Few { rank },
-        Choice::Tie => Answer::Tie { rank },
-        Choice::Picked(_) => settle(rank, n, l, list, taken, roles, state, page),
+        Err(_) => Answer::Singular { rank },
     }
 }
 
 // The answer, the roles and the page, from a state in which so many rows of the list were taken and so many kept. The uses stay in the state.
+#[tactic(auto, unfolding(crate::specs::Tail::finished, crate::specs::Tail::concluded, crate::specs::Tail::choice_in, crate::specs::Tail::roles_in, rows::specs::Rows::row_count))]
 pub fn finish(
     n: u8,
     l: u8,
@@ -76,5 +56,9 @@ pub fn finish(
         choice,
         roles,
     );
-    conclude(choice, rank, n, l, list, taken, roles, state, page)
+    match choice {
+        Err(Unpicked::Few) => Answer::Few { rank },
+        Err(Unpicked::Tie) => Answer::Tie { rank },
+        Ok(_) => settle(rank, n, l, list, taken, roles, state, page),
+    }
 }

@@ -1,37 +1,19 @@
--- A pair of bytes read and written.
+-- A pair of bytes with one more.
 -- Assumes nothing.
-use mathlib.Core.Path.{◌≡◌, ap, ◌∙◌}
-use mathlib.Core.List.{List, [], ◌∷◌}
-use Prim.Native.Nat.{ℕ, zero, suc, ◌+◌, ◌*◌, ◌/◌, ◌%◌, ◌≤◌, ◌<◌}
-use native.Mathlib.Nat.{mod-eq_of_lt}
+use mathlib.Core.Path.{◌≡◌}
+use mathlib.Core.List.{List}
+use Prim.Native.Nat.{ℕ, ◌+◌, ◌*◌, ◌/◌, ◌%◌, ◌≤◌, ◌<◌}
+use native.Mathlib.Nat.{mul_comm}
 use native.Mathlib.Omega.{arith}
-use lib.Bits.{bit_or, or_shifted}
-use lib.ListN.{length, get_or, set, take, drop}
+use lib.ListN.{length, take, drop}
+use borrow.Author.Tests.{lt-ltb}
 use Rattle.octets.specs.Octets.{number, bytes, lay}
+use Rattle.octets.proofs.Numbers.{bytes_mod}
+use Rattle.octets.proofs.Runs.{get_or-numbers}
+use Rattle.doubles.specs.Doubles.{pair_at, put_pair}
 
--- ---- a pair of bytes
-
-pub pair_joined : (x y : ℕ) → x < 256 → y < 256 → bit_or (x * 256 % 4294967296) y ≡ x * 256 + y
-pair_joined x y h l =
-    let small : x * 256 < 4294967296 = omega arith in
-    ap (λ (z : ℕ). bit_or z y) (mod-eq_of_lt small) ∙ or_shifted x 8 y l
-
-pub pair_read : (c : List ℕ) (a : ℕ) → a + 2 ≤ length c → get_or c a 0 * 256 + get_or c (a + 1) 0 ≡ number (take 2 (drop a c))
-unfolding number
-pair_read [] a h = absurd (omega arith)
-pair_read (x ∷ []) zero h = absurd (omega arith)
-pair_read (x ∷ y ∷ c) zero h = omega arith
-pair_read (x ∷ c) (suc a) h =
-    let e : suc a + 1 ≡ suc (a + 1) = omega arith in
-    rw e (pair_read c a (omega arith))
-
-pub pair-written : (c : List ℕ) (a x : ℕ) → a + 2 ≤ length c → set (set c a (x / 256 % 256)) (a + 1) (x % 256) ≡ lay a (bytes 2 x) c
-unfolding bytes lay
-pair-written [] a x h = absurd (omega arith)
-pair-written (y ∷ []) zero x h = absurd (omega arith)
-pair-written (y ∷ z ∷ c) zero x h =
-    let e : x / 1 % 256 ≡ x % 256 = omega arith in
-    rw e
-pair-written (y ∷ c) (suc a) x h =
-    let e : suc a + 1 ≡ suc (a + 1) = omega arith in
-    rw e (ap (λ (l : List ℕ). y ∷ l) (pair-written c a x (omega arith)))
+pub pair-raised : (c : List ℕ) (j : ℕ) → 2 * j + 2 ≤ length c → put_pair j ((pair_at j c + 1) % 65536) c ≡ lay (2 * j) (bytes 2 (number (take 2 (drop (2 * j) c)) + 1)) c
+unfolding put_pair
+pair-raised c j h =
+    let inside : j < length c / 2 = omega arith in
+    rw (lt-ltb j (length c / 2) inside, bytes_mod 2 0 (pair_at j c + 1), get_or-numbers 2 (length c / 2) c j inside, mul_comm j 2)

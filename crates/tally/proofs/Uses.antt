@@ -165,10 +165,6 @@ module _ (j names : ℕ) (before now : List ℕ) (rest : ℕ) (C : Counting j na
           ∙ one_more_lem us (j + k) counted b small inside ∙ ap (uses_by us) sum;
     }
 
-    -- one bit less is left
-    pub counting_less : rest - 2 ^ k < rest
-    counting_less = omega (arith, L.parts, pow_pos k)
-
 -- ---- word after word
 
 -- the word whose lowest bit stands for kept place j
@@ -203,23 +199,20 @@ uses_by_none : (us : List ℕ) → uses_by us 0 ≡ flat 2 us
 unfolding uses_by
 uses_by_none us = ap (flat 2) (raised_none (length us) us)
 
-pub record Tallying (r : ℕ) (start tail now : List ℕ) (i j : ℕ) : Type 0 where
-  pub there : 8 * i + j ≡ 8 * length tail
+pub record Tallying (r : ℕ) (start tail now : List ℕ) (j : ℕ) : Type 0 where
+  pub known : Below 256 start
   pub words : j % 64 ≡ 0
   pub holds : now ≡ uses_by (numbers 2 r start) (number tail % 2 ^ min j r)
 
-module _ (r : ℕ) (start tail : List ℕ) (size : length start ≡ 2 * r) (b : Below 256 start) where
-  pub tally_start : Tallying r start tail start (length tail) 0
-  tally_start =
+module _ (r : ℕ) (start tail : List ℕ) (size : length start ≡ 2 * r) where
+  pub tally_start : Below 256 start → Tallying r start tail start 0
+  tally_start b =
       let none : min 0 r ≡ 0 = omega arith in
       record {
-        there = omega arith;
+        known = b;
         words = refl;
         holds = sym (flat-numbers 2 r start (size ∙ mul_comm 2 r) b) ∙ rw (none, mod-one (number tail)) (sym (uses_by_none (numbers 2 r start)));
       }
-
-  pub tally_long : (now : List ℕ) (i j : ℕ) → Tallying r start tail now i j → length now ≡ 2 * r
-  tally_long now i j T = ap length T.holds ∙ length-uses_by (numbers 2 r start) _ ∙ ap (λ (n : ℕ). 2 * n) (length-numbers 2 r start)
 
   -- the word's bits name kept places
   pub tally_fits : (j x : ℕ) → j < r → x < 2 ^ (r - j) → (n : ℕ) → n ≡ 2 * r → x * 2 ^ j < 2 ^ (n / 2)
@@ -228,20 +221,20 @@ module _ (r : ℕ) (start tail : List ℕ) (size : length start ≡ 2 * r) (b : 
       let all : r - j + j ≡ r = omega arith in
       rw half (rw (sym (pow-add 2 (r - j) j) ∙ ap (λ (k : ℕ). 2 ^ k) all) at (mul-lt-mul_of_pos_right l (pow_pos j)))
 
-  pub tally_more : Below 256 tail → (now next : List ℕ) (i j : ℕ) → Tallying r start tail now (i + 8) j → j < r
-      → Tallied j (word_at i tail % 2 ^ (r - j)) now next → Tallying r start tail next i (j + 64)
-  tally_more known now next i j T h W = record {
-    there = omega (arith, T.there);
+  pub tally_more : Below 256 tail → (now next : List ℕ) (i j : ℕ) → Tallying r start tail now j → 8 * (i + 8) + j ≡ 8 * length tail → j < r
+      → Tallied j (word_at i tail % 2 ^ (r - j)) now next → Tallying r start tail next (j + 64)
+  tally_more known now next i j T there h W = record {
+    known = T.known;
     words = omega (arith, T.words);
     holds =
         let here : min j r ≡ j = omega arith in
         let us : List ℕ = numbers 2 r start in
-        W.each us (number tail % 2 ^ j) (numbers_below 2 r start (size ∙ mul_comm 2 r) b) (mod-lt (number tail) (pow_pos j)) (rw here at T.holds)
-        ∙ ap (uses_by us) (ap (λ (x : ℕ). x % 2 ^ (r - j) * 2 ^ j + number tail % 2 ^ j) (word_at_lem tail i j known T.there) ∙ word_more (number tail) j r h);
+        W.each us (number tail % 2 ^ j) (numbers_below 2 r start (size ∙ mul_comm 2 r) T.known) (mod-lt (number tail) (pow_pos j)) (rw here at T.holds)
+        ∙ ap (uses_by us) (ap (λ (x : ℕ). x % 2 ^ (r - j) * 2 ^ j + number tail % 2 ^ j) (word_at_lem tail i j known there) ∙ word_more (number tail) j r h);
   }
 
-  pub tally_end : (now : List ℕ) (i j : ℕ) → Tallying r start tail now i j → r ≤ j → now ≡ raised_uses r tail start
+  pub tally_end : (now : List ℕ) (j : ℕ) → Tallying r start tail now j → r ≤ j → now ≡ raised_uses r tail start
   unfolding uses_by raised_uses
-  tally_end now i j T h =
+  tally_end now j T h =
       let all : min j r ≡ r = omega arith in
       (rw all at T.holds) ∙ rw (length-numbers 2 r start) (ap (λ (ds : List Bool). flat 2 (raised ds (numbers 2 r start))) (digits_mod r r (number tail) (le_refl r)))

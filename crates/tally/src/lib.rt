@@ -15,11 +15,7 @@ fn raise(uses: &mut [u8], j: usize)
     requires { 2 * j + 2 ≤ length uses.old }
     ensures { uses.new ≡ lay (2 * j) (bytes 2 (number (take 2 (drop (2 * j) uses.old)) + 1)) uses.old }
 {
-    let a = 2 * j;
-    let b = a + 1;
-    let x = (((uses[a] as u32) << 8) | (uses[b] as u32)) + 1;
-    uses[a] = (x / 256 % 256) as u8;
-    uses[b] = (x % 256) as u8;
+    doubles::put_pair(uses, j, doubles::pair(uses, j).wrapping_add(1));
 }
 
 // One use more for each of the kept places from j on that a bit of names stands for.
@@ -27,39 +23,30 @@ fn tally_word(uses: &mut [u8], j: usize, names: u64)
     requires { names * 2 ^ j < 2 ^ (length uses.old / 2) }
     ensures { Tallied j names uses.old uses.new }
 {
-    let mut rest = names;
-    while 0 < rest {
-        raise(uses, j + bits::bottom(rest));
-        rest = bits::without_bottom(rest);
+    for bit in bits::set_bits(names) {
+        raise(uses, j + bit);
     }
 }
 
 // The same for a whole tail, eight bytes at a time.
 fn tally_words(uses: &mut [u8], tail: &[u8], r: usize)
-    requires { (length uses.old ≡ 2 * r) × (length tail.now ≡ tail_bytes) × (r ≤ most_kept) }
+    requires uses { length uses.old ≡ 2 * r }
+    requires tail { length tail.now ≡ tail_bytes }
+    requires few { r ≤ most_kept }
     ensures { uses.new ≡ raised_uses r tail.now uses.old }
 {
-    let mut j: usize = 0;
-    let mut i = tail.len();
-    while j < r {
-        i -= 8;
-        tally_word(uses, j, bits::low(words::word(tail, i), r - j));
-        j += 64;
+    for j in (0..r).step_by(64) {
+        let names = words::word(tail, TAIL - 8 - j / 8);
+        tally_word(uses, j, bits::low(names, r - j));
     }
 }
 
 // One use more for each of the r kept places that the tail names. Nothing is written where that many uses, or the tail, do not fit.
+#[tactic(auto, unfolding(crate::specs::Tally::tallied, crate::specs::Tally::tallies, crate::specs::Tally::most_kept, crate::specs::Tally::tail_bytes))]
 pub fn tally(uses: &mut [u8], tail: &[u8], r: usize)
     ensures { uses.new ≡ tallied r tail.now uses.old }
 {
-    if MOST_KEPT < r {
-        return;
+    if r <= MOST_KEPT && tail.len() == TAIL && uses.len() == 2 * r {
+        tally_words(uses, tail, r);
     }
-    if tail.len() != TAIL {
-        return;
-    }
-    if uses.len() != 2 * r {
-        return;
-    }
-    tally_words(uses, tail, r);
 }

@@ -1,13 +1,13 @@
 // Document 01's numbers of what reading a frame answers, and of what laying it does.
 #![tactic(auto)]
 
-ghost use Rattle.std.specs.Prelude.{◌≡◌};
+ghost use Rattle.std.specs.Prelude.{◌≡◌, Err};
 ghost use Rattle.frame.specs.Numbers.{refused, frame_numbers};
-ghost use Rattle.telling.specs.Told.{told_by};
+ghost use Rattle.telling.specs.Told.{told, told_by};
 
 use frame::layout::{PAYLOAD, SHAPE_AT};
 use frame::{Frame, Numbers};
-use laying::Laid;
+use laying::Refusal;
 
 // ---- reading
 
@@ -25,7 +25,8 @@ fn refusal(number: u8, place: usize) -> Numbers
     }
 }
 
-// The numbers of a reading.
+// The numbers of a reading. Frame and Numbers are both frame's, so that From could not be written here.
+#[tactic(auto, unfolding(frame::specs::Numbers::frame_numbers))]
 pub fn numbers_of(found: Frame) -> Numbers
     ensures { result ≡ frame_numbers found }
 {
@@ -56,37 +57,39 @@ pub struct Told {
     pub place: usize,
 }
 
-// The number and place of an answer; a refusal of the frame is passed on.
-pub fn told_by(answer: Laid) -> Told
+// The number of an answer that has no place.
+fn placeless(number: u8) -> Told
+    ensures { result ≡ told number 0 }
+{
+    Told { number, place: 0 }
+}
+
+// The number and place of a refusal; one of the frame is passed on.
+impl From<Refusal> for Told {
+    ghost from_gives = { λ refusal told. told ≡ told_by (Err refusal) };
+
+    #[tactic(auto, unfolding(laying::specs::Laying::number_of, laying::specs::Laying::place_of))]
+    fn from(refusal: Refusal) -> Told {
+        match refusal {
+            Refusal::Shape => placeless(1),
+            Refusal::Frame(found) => {
+                let numbers = numbers_of(found);
+                Told {
+                    number: numbers.number,
+                    place: numbers.place,
+                }
+            }
+            Refusal::OtherPage => placeless(16),
+            Refusal::Full => placeless(2),
+            Refusal::Room => placeless(3),
+        }
+    }
+}
+
+// The number and place of an answer of laying.
+#[tactic(auto, unfolding(laying::specs::Laying::number_of, laying::specs::Laying::place_of))]
+pub fn told_by(answer: Result<(), Refusal>) -> Told
     ensures { result ≡ told_by answer }
 {
-    match answer {
-        Laid::Row => Told {
-            number: 0,
-            place: 0,
-        },
-        Laid::Shape => Told {
-            number: 1,
-            place: 0,
-        },
-        Laid::Refused(found) => {
-            let numbers = numbers_of(found);
-            Told {
-                number: numbers.number,
-                place: numbers.place,
-            }
-        }
-        Laid::OtherPage => Told {
-            number: 16,
-            place: 0,
-        },
-        Laid::Full => Told {
-            number: 2,
-            place: 0,
-        },
-        Laid::Room => Told {
-            number: 3,
-            place: 0,
-        },
-    }
+    answer.err().map_or(placeless(0), Told::from)
 }

@@ -1,30 +1,23 @@
--- When a line is bad, and what `unhex` leaves in each case.
+-- When a line is bad, and what the answer of `unhex` tells.
 -- Assumes nothing.
 use mathlib.Core.Path.{◌≡◌, refl, sym, ◌∙◌}
-use Prim.Native.Nat.{ℕ, ◌/◌, ◌%◌, ◌≤◌, ◌<◌}
+use Prim.Native.Nat.{ℕ, ◌/◌, ◌%◌, ◌≤◌}
 use native.Mathlib.Omega.{arith}
 use mathlib.Core.Bool.{Bool, true, false, cond, not, ◌||◌, true≢false}
 use mathlib.Core.List.{List}
 use lib.Dec.{eqb, ltb}
 use lib.ListN.{length, take}
-use borrow.Author.Tests.{eq-eqb, ne_eqb, lt-ltb, le-ltb, eqb-true, ltb-false}
+use borrow.Author.Tests.{eq-eqb, le-ltb, eqb-true, ltb-false}
 use Rattle.octets.specs.Octets.{over}
-use Rattle.octets.proofs.Runs.{over_none, take-over}
-use Rattle.text.specs.declared.Hex.TheVariants.{Bytes, Bad, Room}
+use Rattle.octets.proofs.Runs.{take-over}
+use Rattle.std.proofs.Common.{Ok, Err}
+use Rattle.text.specs.declared.Refusal.TheVariants.{Bad, Room}
 use Rattle.text.specs.Hex.{all_digits, pairs, most_characters, bad, unhexed, unhexed_bytes, unhexed_frame}
 use Rattle.text.proofs.Digits.{length_pairs}
 
 -- ---- a bad line
 
 module _ (line : List ℕ) where
-  pub bad_odd : (length line % 2 ≡ 0 → ⊥) → bad line ≡ true
-  unfolding bad
-  bad_odd h = rw (ne_eqb (length line % 2) 0 h)
-
-  pub bad-long : length line % 2 ≡ 0 → 256 < length line → bad line ≡ true
-  unfolding bad most_characters
-  bad-long e h = rw (eq-eqb (length line % 2) 0 e, lt-ltb 256 (length line) h)
-
   -- the digits decide
   pub bad-digits : length line % 2 ≡ 0 → length line ≤ 256 → bad line ≡ not (all_digits line)
   unfolding bad most_characters
@@ -42,19 +35,11 @@ module _ (line : List ℕ) where
       go true e false f false g h = absurd (true≢false h)
       go true e false f true g h = (eqb-true (length line % 2) 0 e, ltb-false 256 (length line) f, g)
 
--- ---- the answer, and the frame at exit, for each case
+-- ---- the answer, and the frame at exit, of a good line that has room
 
 module _ (line frame : List ℕ) where
-  pub unhex_bad : bad line ≡ true → (Bad ≡ unhexed line (length frame)) × (frame ≡ unhexed_frame line frame)
-  unfolding unhexed unhexed_frame unhexed_bytes
-  unhex_bad e = rw e (refl, sym (over_none frame))
-
-  pub unhex_room : bad line ≡ false → length frame < length line / 2 → (Room ≡ unhexed line (length frame)) × (frame ≡ unhexed_frame line frame)
-  unfolding unhexed unhexed_frame unhexed_bytes
-  unhex_room e h = rw (e, lt-ltb (length frame) (length line / 2) h) (refl, sym (over_none frame))
-
   pub unhex_bytes : bad line ≡ false → length line / 2 ≤ length frame
-      → (Bytes (length line / 2) ≡ unhexed line (length frame)) × (over (pairs line) frame ≡ unhexed_frame line frame)
+      → (Ok (length line / 2) ≡ unhexed line (length frame)) × (over (pairs line) frame ≡ unhexed_frame line frame)
   unfolding unhexed unhexed_frame unhexed_bytes
   unhex_bytes e h = rw (e, le-ltb (length frame) (length line / 2) h) (refl, refl)
 
@@ -62,23 +47,23 @@ module _ (line frame : List ℕ) where
 
 module _ (line frame : List ℕ) where
   -- so many bytes: the line is good, and they stand in the frame
-  pub bytes-told : (k : ℕ) → unhexed line (length frame) ≡ Bytes k
+  pub bytes-told : (k : ℕ) → unhexed line (length frame) ≡ Ok k
       → (bad line ≡ false) × (k ≤ length frame) × (take k (unhexed_frame line frame) ≡ pairs line)
   unfolding unhexed
   bytes-told k e = go (bad line) refl (ltb (length frame) (length line / 2)) refl e
     where
       go : (b : Bool) → bad line ≡ b → (r : Bool) → ltb (length frame) (length line / 2) ≡ r
-          → cond b Bad (cond r Room (Bytes (length line / 2))) ≡ Bytes k
+          → cond b (Err Bad) (cond r (Err Room) (Ok (length line / 2))) ≡ Ok k
           → (bad line ≡ false) × (k ≤ length frame) × (take k (unhexed_frame line frame) ≡ pairs line)
-      go true f r g h = let z : ◌≡◌ {A = ℕ} 0 1 = cc in absurd (omega arith)
-      go false f true g h = let z : ◌≡◌ {A = ℕ} 0 1 = cc in absurd (omega arith)
+      go true f r g h = absurd (cc)
+      go false f true g h = absurd (cc)
       go false f false g h =
           let half : length line / 2 ≡ k = cc in
           let fits : length line / 2 ≤ length frame = ltb-false (length frame) (length line / 2) g in
           (f, omega arith, rw (← (unhex_bytes line frame f fits).1) (take-over (pairs line) frame k (length_pairs line ∙ half)))
 
   -- no bytes, where there is room for any line: the line is bad
-  pub none_told : 128 ≤ length frame → ((k : ℕ) → unhexed line (length frame) ≡ Bytes k → ⊥) → bad line ≡ true
+  pub none_told : 128 ≤ length frame → ((k : ℕ) → unhexed line (length frame) ≡ Ok k → ⊥) → bad line ≡ true
   none_told room none = go (bad line) refl
     where
       go : (b : Bool) → bad line ≡ b → b ≡ true

@@ -1,30 +1,34 @@
 -- Hexadecimal digits: the bytes of a line. Document 01, "The page reader program".
-use Rattle.std.specs.Prelude.{ℕ, ◌+◌, ◌-◌, ◌*◌, ◌/◌, ◌%◌, Bool, true, cond, not, ◌&&◌, ◌||◌, List, [], ◌∷◌, eqb, leb, ltb, length}
+use Rattle.std.specs.Prelude.{ℕ, ◌+◌, ◌-◌, ◌*◌, ◌/◌, ◌%◌, Bool, cond, not, ◌&&◌, ◌||◌, List, [], ◌∷◌, Option, None, Some, is_some, unwrap_or, Result, Ok, Err, eqb, leb, ltb, length}
+use Rattle.std.specs.List.{list_all}
 use Rattle.octets.specs.Octets.{over}
-use Rattle.text.specs.declared.Hex.{Hex}
-use Rattle.text.specs.declared.Hex.TheVariants.{Bytes, Bad, Room}
+use Rattle.text.specs.declared.Refusal.{Refusal}
+use Rattle.text.specs.declared.Refusal.TheVariants.{Bad, Room}
 
 -- ---- digits
 
 unfoldable pub within : ℕ → ℕ → ℕ → Bool
 within least most c = leb least c && leb c most
 
--- "hexadecimal digits of either case": what each is worth, 0 to 9, A to F and a to f; 16 stands for "another character".
-unfoldable pub digit : ℕ → ℕ
+-- "hexadecimal digits of either case": what each is worth, 0 to 9, A to F and a to f; "another character" is none.
+unfoldable pub digit : ℕ → Option ℕ
 digit c =
-    cond (within 48 57 c) (c - 48)
-    (cond (within 65 70 c) (c - 65 + 10)
-    (cond (within 97 102 c) (c - 97 + 10) 16))
+    cond (within 48 57 c) (Some (c - 48))
+    (cond (within 65 70 c) (Some (c - 65 + 10))
+    (cond (within 97 102 c) (Some (c - 97 + 10)) None))
+
+-- What a digit is worth, in a line of digits.
+unfoldable pub worth : ℕ → ℕ
+worth c = unwrap_or (digit c) 0
 
 unfoldable pub all_digits : List ℕ → Bool
-all_digits [] = true
-all_digits (c ∷ line) = not (eqb (digit c) 16) && all_digits line
+all_digits line = list_all (λ c. is_some (digit c)) line
 
 -- The bytes that pairs of digits stand for.
 unfoldable pub pairs : List ℕ → List ℕ
 pairs [] = []
 pairs (high ∷ []) = []
-pairs (high ∷ low ∷ line) = (digit high * 16 + digit low) ∷ pairs line
+pairs (high ∷ low ∷ line) = (worth high * 16 + worth low) ∷ pairs line
 
 -- ---- a line
 
@@ -36,14 +40,13 @@ unfoldable pub bad : List ℕ → Bool
 bad line = (not (eqb (length line % 2) 0) || ltb most_characters (length line)) || not (all_digits line)
 
 -- The answer, for a lent frame of that many bytes.
-unfoldable pub unhexed : List ℕ → ℕ → Hex
-unhexed line room = cond (bad line) Bad (cond (ltb room (length line / 2)) Room (Bytes (length line / 2)))
+unfoldable pub unhexed : List ℕ → ℕ → Result ℕ Refusal
+unhexed line room = cond (bad line) (Err Bad) (cond (ltb room (length line / 2)) (Err Room) (Ok (length line / 2)))
 
 -- What is written: "An empty line is a frame of no bytes."
-unfoldable pub unhexed_bytes : Hex → List ℕ → List ℕ
-unhexed_bytes (Bytes k) line = pairs line
-unhexed_bytes Bad line = []
-unhexed_bytes Room line = []
+unfoldable pub unhexed_bytes : Result ℕ Refusal → List ℕ → List ℕ
+unhexed_bytes (Ok k) line = pairs line
+unhexed_bytes (Err e) line = []
 
 -- The lent frame at exit.
 unfoldable pub unhexed_frame : List ℕ → List ℕ → List ℕ

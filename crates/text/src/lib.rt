@@ -8,37 +8,30 @@ ghost use Rattle.text.specs.Hex as spec;
 // "over 256 characters"
 const MOST_CHARACTERS: usize = 256;
 
-// The answer of `unhex`: how many bytes a line stands for; a bad line; or a lent frame that is too short for its bytes.
-#[derive(Clone, Copy)]
-pub enum Hex {
-    Bytes(usize),
+// Why a line gives no bytes: a bad line; or a lent frame that is too short for its bytes.
+#[derive(Clone, Copy, PartialEq, Eq)]
+pub enum Refusal {
     Bad,
     Room,
 }
 
-// What a digit is worth, or 16.
-fn digit(c: u8) -> u8
+// What a digit is worth.
+#[tactic(auto, unfolding(crate::specs::Hex::digit, crate::specs::Hex::within))]
+fn digit(c: u8) -> Option<u8>
     ensures { result ≡ spec.digit c }
 {
     match c {
-        b'0'..=b'9' => c - b'0',
-        b'A'..=b'F' => c - b'A' + 10,
-        b'a'..=b'f' => c - b'a' + 10,
-        _ => 16,
+        b'0'..=b'9' => Some(c - b'0'),
+        b'A'..=b'F' => Some(c - b'A' + 10),
+        b'a'..=b'f' => Some(c - b'a' + 10),
+        _ => None,
     }
 }
 
 fn all_digits(line: &[u8]) -> bool
     ensures { result ≡ spec.all_digits line.now }
 {
-    let mut i = 0;
-    while i < line.len() {
-        if digit(line[i]) == 16 {
-            return false;
-        }
-        i += 1;
-    }
-    true
+    line.iter().all(|&c| digit(c).is_some())
 }
 
 // Writes the byte of each pair of digits.
@@ -47,39 +40,34 @@ fn write_pairs(line: &[u8], frame: &mut [u8])
     requires line_in_bounds { length line.now / 2 ≤ length frame.old }
     ensures { frame.new ≡ over (spec.pairs line.now) frame.old }
 {
-    let half = line.len() / 2;
-    let mut i = 0;
-    while i < half {
-        frame[i] = digit(line[2 * i]) * 16 + digit(line[2 * i + 1]);
-        i += 1;
+    for i in 0..line.len() / 2 {
+        let high = digit(line[2 * i]).unwrap();
+        let low = digit(line[2 * i + 1]).unwrap();
+        frame[i] = high * 16 + low;
     }
 }
 
 // "odd length, over 256 characters, or with another character"
+#[tactic(auto, unfolding(crate::specs::Hex::bad, crate::specs::Hex::most_characters))]
 fn bad(line: &[u8]) -> bool
     ensures { result ≡ spec.bad line.now }
 {
-    if line.len() % 2 != 0 {
-        return true;
-    }
-    if MOST_CHARACTERS < line.len() {
-        return true;
-    }
-    !all_digits(line)
+    line.len() % 2 != 0 || MOST_CHARACTERS < line.len() || !all_digits(line)
 }
 
 // The bytes of a line, into the first bytes of the lent frame.
-pub fn unhex(line: &[u8], frame: &mut [u8]) -> Hex
+#[tactic(auto, using(octets::proofs::Runs::over_none, crate::proofs::Unhexed::good), unfolding(crate::specs::Hex::unhexed, crate::specs::Hex::unhexed_frame, crate::specs::Hex::unhexed_bytes))]
+pub fn unhex(line: &[u8], frame: &mut [u8]) -> Result<usize, Refusal>
     ensures answer { result ≡ spec.unhexed line.now (length frame.old) }
     ensures frame { frame.new ≡ spec.unhexed_frame line.now frame.old }
 {
     if bad(line) {
-        return Hex::Bad;
+        return Err(Refusal::Bad);
     }
     let half = line.len() / 2;
     if frame.len() < half {
-        return Hex::Room;
+        return Err(Refusal::Room);
     }
     write_pairs(line, frame);
-    Hex::Bytes(half)
+    Ok(half)
 }

@@ -1,8 +1,10 @@
 // A vector of 80 bytes, held in ten words so that it stays in registers while other vectors are added to it.
 #![tactic(auto)]
 
-ghost use Rattle.std.specs.Prelude.{◌≡◌, get_or};
-ghost use Rattle.vectors.specs.Vectors.{vector_of, words_in, plus_of, store_in};
+ghost use Rattle.std.specs.Prelude.{◌≡◌};
+ghost use Rattle.vectors.specs.Vectors.{vector_of, plus_of, store_in};
+
+use std::ops::BitXor;
 
 // Fields and no array: the compiler keeps fields in registers, an array it copies about.
 #[derive(Clone, Copy)]
@@ -38,40 +40,32 @@ pub fn load(from: &[u8]) -> Vector
 }
 
 // Two added bit by bit.
-pub fn plus(p: Vector, q: Vector) -> Vector
-    ensures { result ≡ plus_of p q }
-{
-    Vector {
-        a: p.a ^ q.a,
-        b: p.b ^ q.b,
-        c: p.c ^ q.c,
-        d: p.d ^ q.d,
-        e: p.e ^ q.e,
-        f: p.f ^ q.f,
-        g: p.g ^ q.g,
-        h: p.h ^ q.h,
-        i: p.i ^ q.i,
-        j: p.j ^ q.j,
+impl BitXor for Vector {
+    type Output = Vector;
+
+    ghost bitxor_gives = { λ p q sum. sum ≡ plus_of p q };
+
+    fn bitxor(self, q: Vector) -> Vector {
+        Vector {
+            a: self.a ^ q.a,
+            b: self.b ^ q.b,
+            c: self.c ^ q.c,
+            d: self.d ^ q.d,
+            e: self.e ^ q.e,
+            f: self.f ^ q.f,
+            g: self.g ^ q.g,
+            h: self.h ^ q.h,
+            i: self.i ^ q.i,
+            j: self.j ^ q.j,
+        }
     }
 }
 
-// The word at an index; 0 past the last.
-fn nth(v: Vector, i: usize) -> u64
-    ensures { result ≡ get_or (words_in v) i 0 }
+// The same by name.
+pub fn plus(p: Vector, q: Vector) -> Vector
+    ensures { result ≡ plus_of p q }
 {
-    match i {
-        0 => v.a,
-        1 => v.b,
-        2 => v.c,
-        3 => v.d,
-        4 => v.e,
-        5 => v.f,
-        6 => v.g,
-        7 => v.h,
-        8 => v.i,
-        9 => v.j,
-        _ => 0,
-    }
+    p ^ q
 }
 
 // Writes a vector over the first 80 bytes of into; nothing where there are fewer.
@@ -81,11 +75,9 @@ pub fn store(into: &mut [u8], v: Vector)
     if into.len() < 80 {
         return;
     }
-    let mut i: usize = 0;
-    while i < 10 {
+    let words = [v.a, v.b, v.c, v.d, v.e, v.f, v.g, v.h, v.i, v.j];
+    for i in 0..words.len() {
         let at = 8 * i;
-        let end = at + 8;
-        littles::put_little(&mut into[at..end], nth(v, i));
-        i += 1;
+        littles::put_little(&mut into[at..at + 8], words[i]);
     }
 }

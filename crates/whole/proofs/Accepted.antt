@@ -10,6 +10,7 @@ use lib.Dec.{eqb, ltb}
 use lib.ListN.{length, take, drop, length-append}
 use lib.Seq.{take_at, drop_at}
 use borrow.Author.Tests.{eqb-true, ltb-false}
+use Rattle.std.proofs.Common.{Result, Ok, Err}
 use Rattle.space.specs.Lists.{Below}
 use Rattle.space.proofs.Both.{both}
 use Rattle.space.proofs.Lists.{below_append}
@@ -27,7 +28,8 @@ use Rattle.frame.specs.declared.Frame.TheVariants as frames
 use Rattle.frame.specs.Reading.{reading}
 use Rattle.frame.specs.Numbers.{frame_numbers, is_good, offset_of, payload_of}
 use Rattle.frame.proofs.Good.{good-payload, good-shaped}
-use Rattle.laying.specs.declared.Laid.TheVariants.{Row, Shape, Refused, OtherPage, Full, Room}
+use Rattle.laying.specs.declared.Refusal.{Refusal}
+use Rattle.laying.specs.declared.Refusal.TheVariants as laids
 use Rattle.laying.specs.Laying.{same_page, placing, laid, frame_entry}
 use Rattle.laying.proofs.Laying.{entry_is}
 
@@ -45,7 +47,11 @@ good_of page n l (frames.WrongLength place) g o = absurd (false≢true g)
 good_of page n l frames.OutOfRange g o = absurd (false≢true g)
 good_of page n l (frames.Trailing place) g o = absurd (false≢true g)
 
-row_past : (s g o full short : Bool) (f : Frame) → cond (not s) Shape (cond (not g) (Refused f) (cond (not o) OtherPage (cond full Full (cond short Room Row)))) ≡ Row
+abbrev refuse : Refusal → Result Unit Refusal
+refuse = Err
+
+row_past : (s g o full short : Bool) (f : Frame)
+    → cond (not s) (refuse laids.Shape) (cond (not g) (refuse (laids.Frame f)) (cond (not o) (refuse laids.OtherPage) (cond full (refuse laids.Full) (cond short (refuse laids.Room) (Ok tt))))) ≡ Ok tt
     → (g ≡ true) × (o ≡ true) × (full ≡ false) × (short ≡ false)
 row_past true true true false false f e = (refl, refl, refl, refl)
 row_past true true true false true f e = let z : ◌≡◌ {A = ℕ} 0 1 = cc in absurd (omega arith)
@@ -54,7 +60,7 @@ row_past true true false full short f e = let z : ◌≡◌ {A = ℕ} 0 1 = cc i
 row_past true false o full short f e = let z : ◌≡◌ {A = ℕ} 0 1 = cc in absurd (omega arith)
 row_past false g o full short f e = let z : ◌≡◌ {A = ℕ} 0 1 = cc in absurd (omega arith)
 
-module _ (frame : List ℕ) (page n l arrival : ℕ) (list : List ℕ) (row : laid frame page n l arrival list ≡ Row) where
+module _ (frame : List ℕ) (page n l arrival : ℕ) (list : List ℕ) (row : laid frame page n l arrival list ≡ Ok tt) where
   past : (is_good (reading frame) ≡ true) × (same_page (reading frame) page n l ≡ true) × (ltb 511 arrival ≡ false) × (ltb (length list) (list_row_bytes l * arrival + list_row_bytes l) ≡ false)
   unfolding laid placing
   past = row_past (shape n l) (is_good (reading frame)) (same_page (reading frame) page n l) (ltb 511 arrival) (ltb (length list) (list_row_bytes l * arrival + list_row_bytes l)) (reading frame) row

@@ -27,8 +27,7 @@ use Rattle.reader.proofs.Ends.{counts-long, pairs-refused, pairs_end}
 use Rattle.crossing.specs.Held.{Held, list_held}
 use Rattle.store.specs.declared.Head.{Head}
 use Rattle.store.specs.Store.{taken_in, rank_in, working_in}
-use Rattle.asking.specs.declared.Asked.TheVariants as said
-use Rattle.asking.specs.Asking.{lending, list_of, ended, answered, asked_by, asked}
+use Rattle.asking.specs.Asking.{said, lending, list_of, ended, answered, asked_by, asked}
 use Rattle.current.proofs.Held.{held-count, held_rows, held_whole, current-rank, current_concludes}
 use Rattle.whole.specs.Whole.{Whole}
 use Rattle.whole.proofs.Offered.{whole_header}
@@ -105,7 +104,7 @@ module _ (page n l : ℕ) (held : Held) (store : List ℕ) (W : Whole page n l h
 
   -- "its answer equals a fresh reading of the rows accepted so far"
   pub asked-whole : let o = in_pairs n l (list_held l held) (lending page₀ uses₀ roles₀ scratch₀) in
-      asked store page₀ uses₀ roles₀ scratch₀ ≡ record { answer = said.Rows o.answer held.rows; lent = o.lent }
+      asked store page₀ uses₀ roles₀ scratch₀ ≡ record { answer = said o.answer held.rows; lent = o.lent }
   unfolding asked asked_by list_held
   asked-whole =
-      rw (whole_header page n l held store W) (ap (λ (o : Outcome). record { answer = said.Rows o.answer held.rows; lent = o.lent }) (answered_so room refl))
+      rw (whole_header page n l held store W) (ap (λ (o : Outcome). record { answer = said o.answer held.rows; lent = o.lent }) (answered_so room refl))

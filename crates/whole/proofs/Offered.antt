@@ -11,6 +11,7 @@ use mathlib.Core.List.{List, [], ◌∷◌, map}
 use lib.Dec.{eqb}
 use lib.ListN.{length}
 use borrow.Author.Tests.{eqb-true, eqb-false, ne_eqb}
+use Rattle.std.proofs.Common.{Result, Ok, Err}
 use Rattle.space.specs.Lists.{Below}
 use Rattle.space.proofs.Lists.{map-append, below_append}
 use Rattle.octets.specs.Octets.{number, lay}
@@ -27,21 +28,20 @@ use Rattle.absorb.specs.Absorbing.{Absorption}
 use Rattle.echelon.specs.Eliminating.{rank_after}
 use Rattle.frame.specs.declared.Frame.TheVariants as frames
 use Rattle.frame.specs.Reading.{reading}
-use Rattle.laying.specs.declared.Laid.{Laid}
-use Rattle.laying.specs.declared.Laid.TheVariants as laids
+use Rattle.laying.specs.declared.Refusal as laid-refusal
+use Rattle.laying.specs.declared.Refusal.TheVariants as laids
 use Rattle.laying.specs.Laying.{placing, laid, frame_entry, list_after}
 use Rattle.laying.specs.Laying as laying
 use Rattle.laying.proofs.Laying.{laid-placing, laid_zero, placing_full, placing-row}
 use Rattle.crossing.specs.Held.{Held}
 use Rattle.crossing.specs.Held as crossing
 use Rattle.store.specs.declared.Head.{Head}
-use Rattle.store.specs.declared.Header.TheVariants as header
 use Rattle.store.specs.Store.{store_bytes, list_room, taken_in, rank_in, list_in, working_in, with_list, with_working}
 use Rattle.store.specs.Header.{head_in, header_of}
 use Rattle.noticing.specs.Noticing.{seed_in, is_repeat, noticed}
 use Rattle.newest.specs.Newest.{counted_in, admission, admitted, taken_by, newest_taken}
-use Rattle.offering.specs.declared.Offered.TheVariants as offered
-use Rattle.offering.specs.Offering.{number_of, laid_in, laid_store, answer_by, offer_answer, taken_after, after_by, offered_store}
+use Rattle.offering.specs.declared.Refusal.TheVariants.{Laying}
+use Rattle.offering.specs.Offering.{number_of, laid_in, laid_store, of_laying, answer_by, offer_answer, taken_after, after_by, offered_store}
 use Rattle.current.specs.Current.{first_entries}
 use Rattle.current.proofs.Next.{current_repeat, current-taken, next-entries}
 use Rattle.whole.specs.Whole.{Whole}
@@ -50,7 +50,7 @@ use Rattle.store.proofs.Checked.{header_good}
 use Rattle.store.proofs.Back.{length-list, list-long, list-list, list-working, working-long, working-working, working-list}
 use Rattle.whole.proofs.Parts.{list-head, working-head}
 use Rattle.whole.proofs.Accepted.{row-few, row_room, entry-long, entry_low, entry-inside}
-use Rattle.whole.proofs.Refused.{stays, refused_offer}
+use Rattle.whole.proofs.Refused.{stays, laying-number, refused_offer}
 use Rattle.whole.proofs.Written.{written-whole}
 
 -- ---- its header
@@ -63,18 +63,18 @@ module _ (page n l : ℕ) (held : Held) (store : List ℕ) (W : Whole page n l h
   unfolding head_in
   whole-head = rw (W.page_is, W.n_is, W.l_is, W.rows_are)
 
-  pub whole_header : header_of store ≡ header.Good head
+  pub whole_header : header_of store ≡ Ok head
   whole_header = header_good store W.long head whole-head W.shaped W.current.many
 
   list-size : length held.list ≡ list_room
   list-size = ap length (sym W.list_is) ∙ length-list store W.long
 
   module _ (frame : List ℕ) where
-    abbrev said : Laid
+    abbrev said : Result Unit laid-refusal.Refusal
     said = laid frame page n l held.rows held.list
 
     -- "an offer, with places as in laying"
-    pub offer_answer_lem : offer_answer frame store ≡ offered.Laid said
+    pub offer_answer_lem : offer_answer frame store ≡ of_laying said
     unfolding offer_answer answer_by laid_in
     offer_answer_lem = rw (whole_header, W.list_is)
 
@@ -83,17 +83,19 @@ module _ (page n l : ℕ) (held : Held) (store : List ℕ) (W : Whole page n l h
       placed : said ≡ placing l held.rows held.list
       placed = laid-placing frame page n l held.rows held.list W.shaped page n l seed good refl refl refl
 
-      pub offer_accepted : held.rows < most_rows → offer_answer frame store ≡ offered.Laid laids.Row
+      pub offer_accepted : held.rows < most_rows → offer_answer frame store ≡ Ok tt
+      unfolding of_laying
       offer_accepted few =
-          offer_answer_lem ∙ ap offered.Laid (placed ∙ placing-row l held.rows held.list (omega arith)
+          offer_answer_lem ∙ ap of_laying (placed ∙ placing-row l held.rows held.list (omega arith)
           (omega (arith, mul-le-mul_left (list_row_bytes l) few, mul-suc (list_row_bytes l) held.rows, W.current.list_room)))
 
-      pub offer_full : held.rows ≡ most_rows → offer_answer frame store ≡ offered.Laid laids.Full
-      offer_full full = offer_answer_lem ∙ ap offered.Laid (placed ∙ placing_full l held.rows held.list (omega arith))
+      pub offer_full : held.rows ≡ most_rows → offer_answer frame store ≡ Err (Laying laids.Full)
+      unfolding of_laying
+      offer_full full = offer_answer_lem ∙ ap of_laying (placed ∙ placing_full l held.rows held.list (omega arith))
 
     -- ---- a row that is laid
 
-    module _ (b : Below 256 frame) (row : said ≡ laids.Row) where
+    module _ (b : Below 256 frame) (row : said ≡ Ok tt) where
       abbrev entry : List ℕ
       entry = frame_entry frame
 
@@ -194,7 +196,7 @@ module _ (page n l : ℕ) (held : Held) (store : List ℕ) (W : Whole page n l h
           rw (ne_eqb (laying.number_of said) 0 z, (stays said z (list_row_bytes l * held.rows) (frame_entry frame) held.list store).0)
 
       refused-whole : Whole page n l (crossing.offered page n l frame held) (offered_store frame store)
-      refused-whole = rw (nothing-held, refused_offer frame store (λ e. z (sym (ap number_of offer_answer_lem ∙ unfold number_of in refl) ∙ e))) W
+      refused-whole = rw (nothing-held, refused_offer frame store (λ e. z (sym (ap number_of offer_answer_lem ∙ laying-number said) ∙ e))) W
 
     -- "true after each offered frame"
     pub offered-whole : Below 256 frame → Whole page n l (crossing.offered page n l frame held) (offered_store frame store)

@@ -8,6 +8,7 @@ use mathlib.Core.Bool.{Bool, true, false, cond, not}
 use mathlib.Core.List.{List, [], ◌∷◌, ◌++◌, append_assoc}
 use lib.ListN.{length, take, drop, get_or, replicate, length-replicate, length-append, length-drop}
 use lib.Seq.{take_at, drop-append-le, get_or-take, take-take}
+use Rattle.std.proofs.Common.{Result, Ok, Err}
 use Rattle.octets.specs.Octets.{number, bytes, numbers, over}
 use Rattle.octets.proofs.Numbers.{length-bytes, number-bytes}
 use Rattle.octets.proofs.Loaded.{number-zeros}
@@ -20,8 +21,8 @@ use Rattle.concluding.proofs.Bytes.{zeros_low}
 use Rattle.crossing.specs.Held as crossing
 use Rattle.state.specs.Layout.{state_bytes}
 use Rattle.store.specs.Store.{store_bytes, list_at, working_at, list_room, is_store, page_in, n_in, l_in, rows_in, taken_in, rank_in}
-use Rattle.opening.specs.declared.Opened.{Opened}
-use Rattle.opening.specs.declared.Opened.TheVariants.{Open, Shape, Room}
+use Rattle.opening.specs.declared.Refusal.{Refusal}
+use Rattle.opening.specs.declared.Refusal.TheVariants.{Shape, Room}
 use Rattle.opening.specs.Opening.{number_of, open_answer, blank, after, opened_store}
 use Rattle.current.specs.Current.{first_entries}
 use Rattle.current.proofs.Empty.{current-empty}
@@ -32,11 +33,10 @@ use Rattle.whole.proofs.Parts.{page-front}
 
 -- ---- a refusal
 
-after-refused : (a : Opened) (page n l : ℕ) (store : List ℕ) → (number_of a ≡ 0 → ⊥) → after a page n l store ≡ store
+after-refused : (a : Result Unit Refusal) (page n l : ℕ) (store : List ℕ) → (number_of a ≡ 0 → ⊥) → after a page n l store ≡ store
 unfolding after number_of
-after-refused Open page n l store refused = absurd (refused refl)
-after-refused Shape page n l store refused = refl
-after-refused Room page n l store refused = refl
+after-refused (Ok _) page n l store refused = absurd (refused refl)
+after-refused (Err e) page n l store refused = refl
 
 -- "opening gives 1 then 3": a refused opening leaves an older store as it was
 pub open_refused : (page n l : ℕ) (store : List ℕ) → (number_of (open_answer n l store) ≡ 0 → ⊥) → opened_store page n l store ≡ store
@@ -53,7 +53,7 @@ pub open_short : (page n l : ℕ) (store : List ℕ) → is_store store ≡ fals
 unfolding opened_store open_answer after
 open_short page n l store e = go (shape n l)
   where
-    go : (s : Bool) → after (cond (not s) Shape (cond (not (is_store store)) Room Open)) page n l store ≡ store
+    go : (s : Bool) → after (cond (not s) (Err Shape) (cond (not (is_store store)) (Err Room) (Ok tt))) page n l store ≡ store
     go true = rw e
     go false = refl
 

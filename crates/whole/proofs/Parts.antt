@@ -16,7 +16,7 @@ use Rattle.octets.proofs.Lay.{length-lay, take-before, drop-after}
 use Rattle.octets.proofs.Laid.{numbers-lay}
 use Rattle.doubles.specs.Doubles.{pairs_in, pair_at, put_pair}
 use Rattle.doubles.proofs.Doubles.{length_pairs, pair_at_lem}
-use Rattle.marks.proofs.Marking.{pair-laid}
+use Rattle.marks.proofs.Written.{pair-laid}
 use Rattle.words.specs.Words.{four_of}
 use Rattle.state.specs.Layout.{state_bytes}
 use Rattle.store.specs.Store.{store_bytes, list_at, working_at, list_room, page_in, n_in, l_in, rows_in, taken_in, rank_in, list_in, working_in, with_list, with_working}

@@ -1,3 +1,3 @@
-pub mod Shifted
+pub mod Eights
 pub mod Words
 pub mod Settled

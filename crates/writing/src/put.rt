@@ -6,6 +6,15 @@ ghost use Rattle.writing.specs.Writing.{sum_bytes};
 
 use frame::layout::{MARK, PAYLOAD, PAYLOAD_AT, SEED_AT, SHAPE_AT};
 
+// What a frame says in front of its payload.
+#[derive(Clone, Copy)]
+pub(crate) struct Head {
+    pub(crate) page_number: u32,
+    pub(crate) n: u8,
+    pub(crate) l: u8,
+    pub(crate) seed: u32,
+}
+
 // Tag and length of a field.
 fn put_mark(into: &mut [u8], tag: u8, size: usize)
     requires { length into.old ≡ 3 }
@@ -25,33 +34,27 @@ fn put_field(into: &mut [u8], tag: u8, size: usize, value: u64)
 }
 
 // The fields in front of the payload's.
-fn put_head(into: &mut [u8], page_number: u32, n: u8, l: u8, seed: u32)
+fn put_head(into: &mut [u8], head: Head)
     requires { length into.old ≡ payload_at }
-    ensures { into.new ≡ head_bytes page_number n l seed }
+    ensures { into.new ≡ head_bytes head.page_number head.n head.l head.seed }
 {
-    put_field(&mut into[..SHAPE_AT], 1, 4, page_number as u64);
+    put_field(&mut into[..SHAPE_AT], 1, 4, head.page_number as u64);
     put_field(
         &mut into[SHAPE_AT..SEED_AT],
         2,
         2,
-        n as u64 * 256 + l as u64,
+        head.n as u64 * 256 + head.l as u64,
     );
-    put_field(&mut into[SEED_AT..], 3, 4, seed as u64);
+    put_field(&mut into[SEED_AT..], 3, 4, head.seed as u64);
 }
 
-pub(crate) fn put_frame(
-    into: &mut [u8],
-    page_number: u32,
-    n: u8,
-    l: u8,
-    seed: u32,
-    page: &[u8],
-    constraint: u64,
-)
-    requires { (length into.old ≡ frame_length l) × (1 ≤ l) × (length page.now ≡ n * l) }
-    ensures { into.new ≡ frame_bytes page_number n l seed (sum_bytes n l page.now constraint) }
+pub(crate) fn put_frame(into: &mut [u8], head: Head, page: &[u8], constraint: u64)
+    requires into_long { length into.old ≡ frame_length head.l }
+    requires l_low { 1 ≤ head.l }
+    requires page_long { length page.now ≡ head.n * head.l }
+    ensures { into.new ≡ frame_bytes head.page_number head.n head.l head.seed (sum_bytes head.n head.l page.now constraint) }
 {
-    put_head(&mut into[..PAYLOAD_AT], page_number, n, l, seed);
-    put_mark(&mut into[PAYLOAD_AT..PAYLOAD], 4, l as usize);
+    put_head(&mut into[..PAYLOAD_AT], head);
+    put_mark(&mut into[PAYLOAD_AT..PAYLOAD], 4, head.l as usize);
     sums::sum(&mut into[PAYLOAD..], page, constraint);
 }

@@ -1,11 +1,12 @@
 -- `take_in` meets its contract: the vector that the pass leaves is kept or counted, and nothing is written where no kept place is left.
 -- Assumes nothing.
 use native.Mathlib.Omega.{arith}
-use mathlib.Core.Path.{◌≡◌, sym, ap, ap₂, ◌∙◌}
+use mathlib.Core.Path.{◌≡◌, refl, sym, ap, ap₂, ◌∙◌}
 use mathlib.Core.List.{List}
 use Prim.Native.Nat.{ℕ}
-use lib.ListN.{length, length-replicate}
+use lib.ListN.{length}
 use Rattle.octets.specs.Octets.{number}
+use Rattle.octets.proofs.Numbers.{length-bytes}
 use Rattle.basis.specs.Algorithm2.{Pass}
 use Rattle.tally.specs.Tally.{most_kept}
 use Rattle.state.specs.Layout.{vector_bytes}
@@ -22,15 +23,21 @@ abbrev Fit : (c : Start) → Type 0
 Fit c = Takes (length c.args.row.now) c.args.arrival.0 c.args.rank (length c.args.state.now)
 
 fit : (c : Start) → Fit c
-fit c = takes_so (length c.args.row.now) c.args.arrival.0 c.args.rank (length c.args.state.now) c.requires.1
+fit c = takes_so (length c.args.row.now) c.args.arrival.0 c.args.rank (length c.args.state.now) c.requires
 
-pub attempt-t-requires : goal.attempt-t-requires
-attempt-t-requires c =
-    (c.requires.0, (fit (goal.at.attempt-t-requires c).Start).high, (fit (goal.at.attempt-t-requires c).Start).whole)
+pub attempt-t-requires-clause-empty : goal.attempt-t-requires-clause-empty
+unfolding vector_bytes
+attempt-t-requires-clause-empty c = refl
+
+pub attempt-t-requires-clause-row : goal.attempt-t-requires-clause-row
+attempt-t-requires-clause-row c = (fit (goal.at.attempt-t-requires-clause-row c).Start).high
+
+pub attempt-t-requires-clause-whole : goal.attempt-t-requires-clause-whole
+attempt-t-requires-clause-whole c = (fit (goal.at.attempt-t-requires-clause-whole c).Start).whole
 
 -- the vector has 80 bytes all the time
 long : (c : After-attempt-t) → length c.attempt-t.new.work ≡ vector_bytes
-long c = c.attempt-t.auto.work ∙ ap length c.requires.0 ∙ length-replicate {A = ℕ} vector_bytes 0
+long c = ap length c.attempt-t.ensures.left ∙ length-bytes vector_bytes _
 
 pub overflow_mul-key : goal.overflow_mul-key
 overflow_mul-key c = omega (arith, (fit (goal.at.overflow_mul-key c).Start).high)

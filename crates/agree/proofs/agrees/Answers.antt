@@ -1,6 +1,7 @@
 -- `agrees` meets its contract: a row of 9 to 40 bytes agrees where its payload is the sum that its first word names, and no other row does.
 -- Assumes nothing.
 use mathlib.Core.Path.{◌≡◌, sym, ap, ◌∙◌}
+use mathlib.Core.Logic.{inl, inr}
 use mathlib.Core.List.{List}
 use Prim.Native.Nat.{ℕ, ◌-◌, ◌/◌, ◌%◌, ◌^◌, ◌≤◌}
 use native.Mathlib.Nat.{mod-lt}
@@ -24,16 +25,12 @@ use Rattle.agree.proofs.agrees.Goals as goal
 
 pub returns-then-size-lt9 : goal.returns-then-size-lt9
 unfolding bytes_agree
-returns-then-size-lt9 c = simp (lt-leb 9 (length c.args.row.now) (omega arith))
-
-pub returns-then-size-gt40 : goal.returns-then-size-gt40
-unfolding bytes_agree
-returns-then-size-gt40 c =
+returns-then-size-lt9 c =
     let size = length c.args.row.now in
-    simp (le-leb 9 size (omega arith), lt-leb size 40 (omega arith))
+    elim c.then-size-lt9.either [ inl h ↦ simp (lt-leb 9 size h) | inr h ↦ simp (le-leb 9 size h.0, lt-leb size 40 h.1) ]
 
 pub of_page-names-requires : goal.of_page-names-requires
-of_page-names-requires c = (omega arith, omega arith)
+of_page-names-requires c = record { some = omega arith; most = omega arith }
 
 -- by the row's two parts: its last bytes are the sum that its first eight name
 agrees-parts : (l : ℕ) (page row : List ℕ) → Below 256 row → length row ≡ row_bytes l
@@ -61,7 +58,7 @@ module _ (page row : List ℕ) (b : Below 256 row) (low : 9 ≤ length row) (hig
 pub is_long_sum-requires : goal.is_long_sum-requires
 is_long_sum-requires c =
     let row = c.args.row.now in
-    rw (part_to_end row 8, length-drop 8 row, c.of_page-names.ensures) (omega arith, omega arith, mod-lt _ (pow_pos _))
+    rw (part_to_end row 8, length-drop 8 row, c.of_page-names.ensures) (record { least = omega arith; most = omega arith; inside = mod-lt _ (pow_pos _) })
 
 pub returns-then-size-ge16 : goal.returns-then-size-ge16
 returns-then-size-ge16 c =
@@ -72,7 +69,7 @@ returns-then-size-ge16 c =
 pub is_short_sum-requires : goal.is_short_sum-requires
 is_short_sum-requires c =
     let row = c.args.row.now in
-    rw (part_to_end row 8, length-drop 8 row, c.of_page-names.ensures) (omega arith, omega arith, mod-lt _ (pow_pos _))
+    rw (part_to_end row 8, length-drop 8 row, c.of_page-names.ensures) (record { some = omega arith; few = omega arith; inside = mod-lt _ (pow_pos _) })
 
 pub returns : goal.returns
 returns c =

@@ -3,8 +3,5 @@ use Rattle.agree.specs.Quads.{quad_of}
 use Rattle.rows.proofs.Bits.{Adding, added}
 use Rattle.agree.proofs.is_long_sum.Given as goal
 
-abbrev pub invariant-loop-rest : goal.invariant-loop-rest
-invariant-loop-rest l = Adding (λ x. quad_of (added l.payload x)) (length l.payload) l.page l.names l.left l.rest
-
-abbrev pub decreases-loop-rest : goal.decreases-loop-rest
-decreases-loop-rest l = l.rest
+abbrev pub invariant-loop-bit : goal.invariant-loop-bit
+invariant-loop-bit l = Adding (λ x. quad_of (added l.payload x)) (length l.payload) l.page l.names l.left l.bit-iterator.rest

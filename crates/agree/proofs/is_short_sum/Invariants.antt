@@ -5,8 +5,5 @@ use Rattle.rows.proofs.Bits.{Adding}
 use Rattle.agree.proofs.Shorts.{front}
 use Rattle.agree.proofs.is_short_sum.Given as goal
 
-abbrev pub invariant-loop-rest : goal.invariant-loop-rest
-invariant-loop-rest l = Adding (λ x. number l.payload ⊕ x) (length l.payload) l.page l.names (front (length l.payload) l.left) l.rest
-
-abbrev pub decreases-loop-rest : goal.decreases-loop-rest
-decreases-loop-rest l = l.rest
+abbrev pub invariant-loop-bit : goal.invariant-loop-bit
+invariant-loop-bit l = Adding (λ x. number l.payload ⊕ x) (length l.payload) l.page l.names (front (length l.payload) l.left) l.bit-iterator.rest

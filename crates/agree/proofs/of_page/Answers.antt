@@ -30,8 +30,8 @@ overflow_add-top c = omega (arith, c.top.ensures, most c.args.names)
 pub overflow_mul-top : goal.overflow_mul-top
 overflow_mul-top c =
     let few : c.top.result + 1 ≤ 64 = omega (arith, c.top.ensures, most c.args.names) in
-    omega (arith, mul-le-mul_right c.args.l few, c.requires.1)
+    omega (arith, mul-le-mul_right c.args.l few, c.requires.most)
 
 pub returns-then-top-l : goal.returns-then-top-l
 returns-then-top-l c =
-    sym (mod-eq_of_lt (inside c.args.names c.args.l c.args.page c.ranges.names.fits c.requires.0 (rw c.top.ensures at c.if-top-l.true)))
+    sym (mod-eq_of_lt (inside c.args.names c.args.l c.args.page c.ranges.names.fits c.requires.some (rw c.top.ensures at c.if-top-l.true)))

@@ -1,29 +1,23 @@
--- `agreement` meets its contract: a loop that counts along the arrivals that are taken.
+-- `agreement` meets its contract: the places whose rows agree are counted.
 -- Assumes nothing.
-use mathlib.Core.Path.{ap, ◌∙◌}
+use mathlib.Core.Path.{◌∙◌}
+use Prim.Native.Nat.{◌/◌}
 use native.Mathlib.Omega.{arith}
-use Rattle.space.proofs.Counting.{counting-start, counting_more, counting_end}
-use Rattle.doubles.proofs.Doubles.{length_pairs}
+use lib.ListN.{length}
+use Rattle.std.proofs.Common.{rules, tests}
+use Rattle.std.proofs.lemmas.Iterator.{YieldsList-from_range}
+use Rattle.std.proofs.lemmas.Iterator.Consumers.{YieldsList-from_filter, count_from_yields_List}
+use Rattle.doubles.specs.Doubles.{pair_at}
+use Rattle.doubles.proofs.Counted.{counted_pairs}
 use Rattle.rows.specs.Bytes.{bytes_agree}
 use Rattle.lists.specs.Lists.{row_at}
 use Rattle.agreement.specs.Agreement.{agreement_of}
 use Rattle.agreement.proofs.agreement.Goals as goal
 
-pub loop-i-init : goal.loop-i-init
-loop-i-init c = counting-start _ _
-
-pub overflow_cast-arrival : goal.overflow_cast-arrival
-overflow_cast-arrival c = omega (arith, c.pair.type_inv)
-
-pub loop-i-preserved : goal.loop-i-preserved
-loop-i-preserved c =
-    let A = c.args in
-    counting_more _ _ _ _ c.loop-i.invariant (rw (length_pairs A.order.now) c.loop-i-test.true) _
-    (c.agrees.ensures ∙ ap (bytes_agree A.page.now) (c.row.ensures.shows ∙ ap (λ a. row_at A.l a A.list.now) c.pair.ensures))
-
-pub overflow_add-agreeing : goal.overflow_add-agreeing
-overflow_add-agreeing c = omega (arith, (loop-i-preserved c).most)
-
 pub returns : goal.returns
 unfolding agreement_of
-returns c = counting_end _ _ _ _ c.loop-i.invariant (rw (length_pairs c.args.order.now) c.loop-i-test.false)
+returns c =
+    let A = c.args in
+    count_from_yields_List _ c.count.result c.count.ensures.ran
+    (YieldsList-from_filter _ (λ i. bytes_agree A.page.now (row_at A.l (pair_at i A.order.now) A.list.now)) (YieldsList-from_range _ _ (length A.order.now / 2) c.filter.ensures.source (omega arith)) c.filter.ensures.closure (λ x r q k. search (rules, tests)))
+    ∙ counted_pairs (λ a. bytes_agree A.page.now (row_at A.l a A.list.now)) A.order.now

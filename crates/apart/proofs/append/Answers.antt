@@ -16,7 +16,7 @@ unfolding appended
 returns-then-agrees c = rw (sym c.agrees.ensures ∙ c.if-agrees.true)
 
 pub overflow_add-result : goal.overflow_add-result
-overflow_add-result c = omega (arith, c.requires.1)
+overflow_add-result c = omega (arith, c.requires.few)
 
 pub returns : goal.returns
 unfolding appended
@@ -24,7 +24,7 @@ returns c =
     let w = length c.args.entry.now in
     let at = c.args.k * w in
     let wide : at + w - at ≡ w = omega arith in
-    let part : length (take (at + w - at) (drop at c.args.list.now)) ≡ w = rw wide (length_part w at c.args.list.now c.requires.0) in
+    let part : length (take (at + w - at) (drop at c.args.list.now)) ≡ w = rw wide (length_part w at c.args.list.now c.requires.room) in
     let laid : c.copy.new.into ≡ c.args.entry.now = c.copy.ensures ∙ copied w c.args.entry.now (take (at + w - at) (drop at c.args.list.now)) refl part in
     rw (sym c.agrees.ensures ∙ c.if-agrees.false)
     (rw (add-one c.args.k) (ap (gathers _) (back at (at + w - at) c.copy.new.into c.args.list.now (ap length laid ∙ sym wide) ∙ rw laid)))

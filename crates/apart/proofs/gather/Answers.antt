@@ -41,7 +41,8 @@ pub append-k-requires : goal.append-k-requires
 append-k-requires c =
     let k = (goal.at.append-k-requires c).Else-not-can_gather in
     let loop = c.loop-i in
-    rw c.entry.ensures.shows (gathering_room c.args.l c.args.list.now c.args.page.now c.args.into.now loop.into loop.k loop.i loop.invariant (inside (goal.at.append-k-requires c).In-loop-i) (few k) (fit k).long)
+    let next = gathering_room c.args.l c.args.list.now c.args.page.now c.args.into.now loop.into loop.k loop.i loop.invariant (inside (goal.at.append-k-requires c).In-loop-i) (few k) (fit k).long in
+    rw c.entry.ensures.shows (record { room = next.0; few = next.1 })
 
 pub loop-i-preserved : goal.loop-i-preserved
 loop-i-preserved c =

@@ -1,18 +1,30 @@
--- `asking::finish_from` meets its contract: the tail begins with the working, since it stands in the front of the scratch.
+-- `asking::finish_from` lends the front of the scratch, which is as long as the working; what stands behind it stays.
 -- Assumes nothing.
-use mathlib.Core.List.{List}
-use Prim.Native.Nat.{ℕ}
-use Rattle.asking.proofs.Copy.{copy_ends, copy_roles, copy_behind}
+use mathlib.Core.Path.{sym, ◌∙◌}
+use Prim.Native.Nat.{◌≤◌}
+use native.Mathlib.Omega.{arith}
+use lib.ListN.{length}
+use lib.Seq.{length-take-le}
+use Rattle.reading.specs.Outcome.{scratch_bytes}
+use Rattle.state.specs.Layout.{state_bytes}
+use Rattle.ends.proofs.Clearing.{cleared_anew}
 use Rattle.asking.proofs.finish_from.Goals as goal
+use Rattle.asking.proofs.finish_from.Goals.{Start}
 
-pub returns : goal.returns
-returns c =
-    let A = c.args in
-    let K = c.copy in
-    let F = c.finish_in in
-    let left : List ℕ = K.new.into in
-    record {
-      end = copy_ends A.working.now A.scratch.now left c.requires.0 c.requires.1 K.ensures A.head A.list.now A.roles.now A.page.now _ F.ensures.end;
-      roles = copy_roles A.working.now A.scratch.now left c.requires.0 c.requires.1 K.ensures A.head A.list.now A.roles.now _ F.ensures.roles;
-      behind = copy_behind A.working.now A.scratch.now left c.requires.0 c.requires.1 K.ensures _ F.ensures.behind;
-    }
+-- the scratch is long enough
+wide : (S : Start) → 31872 ≤ length S.args.scratch.now
+unfolding scratch_bytes
+wide S = omega (arith, S.requires.room)
+
+pub slice_bounds-state-end : goal.slice_bounds-state-end
+slice_bounds-state-end c = wide (goal.at.slice_bounds-state-end c).Start
+
+pub slice_bounds-state-end-2 : goal.slice_bounds-state-end-2
+slice_bounds-state-end-2 c = sym (length-take-le 31872 c.args.scratch.now (wide (goal.at.slice_bounds-state-end-2 c).Start))
+
+pub copy_from_slice-requires : goal.copy_from_slice-requires
+unfolding state_bytes
+copy_from_slice-requires c = length-take-le 31872 c.args.scratch.now (wide (goal.at.copy_from_slice-requires c).Start) ∙ sym c.requires.whole
+
+pub returns-clause-behind : goal.returns-clause-behind
+returns-clause-behind c = cleared_anew c.args.scratch.now c.finish.new.state c.requires.room (c.finish.auto.state ∙ c.copy_from_slice.auto.self)

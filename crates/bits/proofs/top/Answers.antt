@@ -1,16 +1,10 @@
--- `bits::top` meets its contract: the leading zeros, the bit and the bits below it make 64.
+-- `bits::top` meets its contract: the logarithm of a number is the place of its highest set bit.
 -- Assumes nothing.
-use mathlib.Core.Path.{◌≡◌, refl}
-use lib.Count.{count_leading_zeros}
-use Rattle.bits.specs.Bits.{highest}
+use mathlib.Core.Path.{◌∙◌}
+use Rattle.bits.proofs.Bits.{log_highest}
 use Rattle.bits.proofs.top.Goals as goal
 
-pub returns-then-x-eq0 : goal.returns-then-x-eq0
-unfolding highest count_leading_zeros
-returns-then-x-eq0 c =
-    let none : c.args.x ≡ 0 = c.if-x-eq0.true in
-    rw none
-
 pub returns : goal.returns
-unfolding highest
-returns c = refl
+returns c =
+    let log = c.checked_ilog2.ensures in
+    c.unwrap_or.ensures ∙ log_highest c.args.x c.checked_ilog2.result c.ranges.x.fits log.none log.power_le log.next_power_gt

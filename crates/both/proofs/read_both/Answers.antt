@@ -44,7 +44,8 @@ module _ (c : After-fits_too) where
 pub returns-then-not-fits_too : goal.returns-then-not-fits_too
 returns-then-not-fits_too c =
     let k = (goal.at.returns-then-not-fits_too c).After-fits_too in
-    pairs.pairs-refused c.args.n c.args.l c.args.list.now (lent k) (lent₂ k) (low k) (low₂ k) (sym c.fits_too.ensures ∙ c.if-not-fits_too.true)
+    rw c.alone.ensures
+    (pairs.pairs-refused c.args.n c.args.l c.args.list.now (lent k) (lent₂ k) (low k) (low₂ k) (sym c.fits_too.ensures ∙ c.if-not-fits_too.true))
 
 -- ---- there was room, and the first list is read
 
@@ -53,8 +54,9 @@ pub returns-in_default : goal.returns-in_default
 returns-in_default c =
     let k = (goal.at.returns-in_default c).After-fits_too in
     let R = c.read_pairs-first in
-    pairs.pairs-alone c.args.n c.args.l c.args.list.now (lent k) (lent₂ k) (fitted k c.if-not-fits_too.false) R.result (buffers R.new.page R.new.uses R.new.roles R.new.scratch) R.ensures (low₂ k)
-    (no_page R.result (λ r g. c.in_default.not-Page r g) (outcome c.args.n c.args.l c.args.list.now (counted (lent k))).lent)
+    rw c.alone-in_default.ensures
+    (pairs.pairs-alone c.args.n c.args.l c.args.list.now (lent k) (lent₂ k) (fitted k c.if-not-fits_too.false) R.result (buffers R.new.page R.new.uses R.new.roles R.new.scratch) R.ensures (low₂ k)
+    (no_page R.result (λ r g. c.in_default.not-Page r g) (outcome c.args.n c.args.l c.args.list.now (counted (lent k))).lent))
 
 -- ---- a page
 

@@ -1,25 +1,20 @@
--- `choose::reached` meets its contract: a loop that counts along the uses.
+-- `choose::reached` meets its contract: the places whose uses reach the least are counted.
 -- Assumes nothing.
-use mathlib.Core.Path.{ap}
+use mathlib.Core.Path.{◌∙◌}
+use Prim.Native.Nat.{◌/◌}
 use native.Mathlib.Omega.{arith}
 use lib.Dec.{leb}
-use Rattle.doubles.proofs.Doubles.{length_pairs}
-use Rattle.space.proofs.Counting.{counting-start, counting_more, counting_end}
+use lib.ListN.{length}
+use Rattle.std.proofs.Common.{rules, tests}
+use Rattle.std.proofs.lemmas.Iterator.{YieldsList-from_range}
+use Rattle.std.proofs.lemmas.Iterator.Consumers.{YieldsList-from_filter, count_from_yields_List}
+use Rattle.doubles.specs.Doubles.{pair_at}
+use Rattle.doubles.proofs.Counted.{counted_pairs}
 use Rattle.choose.proofs.reached.Goals as goal
 
-pub loop-i-init : goal.loop-i-init
-loop-i-init c = counting-start _ _
-
-pub overflow_cast-uses : goal.overflow_cast-uses
-overflow_cast-uses c = omega (arith, c.pair-uses.type_inv)
-
-pub loop-i-preserved : goal.loop-i-preserved
-loop-i-preserved c =
-    counting_more _ _ _ _ c.loop-i.invariant (rw (length_pairs c.args.counts.now) c.loop-i-test.true) _
-    (ap (leb c.args.least) c.pair-uses.ensures)
-
-pub overflow_add-sum : goal.overflow_add-sum
-overflow_add-sum c = omega (arith, (loop-i-preserved c).most)
-
 pub returns : goal.returns
-returns c = counting_end _ _ _ _ c.loop-i.invariant (rw (length_pairs c.args.counts.now) c.loop-i-test.false)
+returns c =
+    let counts = c.args.counts.now in
+    count_from_yields_List _ c.count.result c.count.ensures.ran
+    (YieldsList-from_filter _ (λ i. leb c.args.least (pair_at i counts)) (YieldsList-from_range _ _ (length counts / 2) c.filter.ensures.source (omega arith)) c.filter.ensures.closure (λ x r q k. search (rules, tests)))
+    ∙ counted_pairs (leb c.args.least) counts

@@ -29,8 +29,8 @@ returns-then-strays c =
     let A = c.args in
     rw (chosen-one A.role (number A.row.now) c.if-role-ne2.false, says (goal.at.returns-then-strays c).After-strays ∙ c.if-strays.true)
 
-pub returns : goal.returns
+pub returns-else-strays : goal.returns-else-strays
 unfolding weight
-returns c =
+returns-else-strays c =
     let A = c.args in
-    rw (chosen-one A.role (number A.row.now) c.if-role-ne2.false, says (goal.at.returns c).After-strays ∙ c.if-strays.false)
+    rw (chosen-one A.role (number A.row.now) c.if-role-ne2.false, says (goal.at.returns-else-strays c).After-strays ∙ c.if-strays.false)

@@ -1,12 +1,14 @@
--- `doubles::pair` meets its contract: two bytes are one number, the first byte highest.
+-- `doubles::pair` meets its contract: the two bytes at a place are its number, and there are as many places as pairs.
 -- Assumes nothing.
-use mathlib.Core.Path.{sym}
-use Rattle.doubles.proofs.Doubles.{pair_at_lem, pair_past}
-use native.Mathlib.Omega.{arith}
+use Rattle.std.proofs.Common.{sym, ◌∙◌}
+use Rattle.doubles.proofs.Doubles.{pair_chunk, pair_past}
 use Rattle.doubles.proofs.pair.Goals as goal
 
-pub returns-then-from-i : goal.returns-then-from-i
-returns-then-from-i c = sym (pair_past c.args.from.now c.args.i c.if-from-i.true)
+pub returns-in-Some : goal.returns-in-Some
+returns-in-Some c =
+    let e = c.in-Some.ensures.lookup in
+    let chunks = c.as_chunks.ensures in
+    c.from_be_bytes.ensures ∙ pair_chunk c.args.from.now c.args.i c.in-Some.pair.now (rw chunks.front_len at e.3.0) (rw chunks.front at e.1)
 
-pub returns : goal.returns
-returns c = sym (pair_at_lem c.args.from.now c.args.i (omega (arith, c.if-from-i.false)))
+pub returns-in-None : goal.returns-in-None
+returns-in-None c = sym (pair_past c.args.from.now c.args.i (rw c.as_chunks.ensures.front_len at c.in-None.ensures.lookup.3))

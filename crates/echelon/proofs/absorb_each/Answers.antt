@@ -11,7 +11,7 @@ loop-i-init c =
     turning_start A.l A.list.now A.taken A.state.now
 
 pub absorb_at-rank-requires : goal.absorb_at-rank-requires
-absorb_at-rank-requires c = omega (arith, c.loop-i.invariant.few, c.loop-i-test.true, c.requires.0)
+absorb_at-rank-requires c = omega (arith, c.loop-i.invariant.few, c.loop-i-test.true, c.requires.few)
 
 pub overflow_step-i : goal.overflow_step-i
 overflow_step-i c = omega (arith, c.loop-i-test.true)
@@ -25,7 +25,7 @@ loop-i-preserved c =
     let l = c.loop-i in
     let a = c.absorb_at-rank in
     turning_more A.l A.list.now A.taken (whole A.l A.list.now A.taken A.state.now) A.state.now l.state l.rank l.i l.invariant
-    c.loop-i-test.true c.requires.0 c.requires.1 c.arrival-arrival.result.0 c.arrival-arrival.ensures a.new.state a.result a.auto.state a.ensures.state a.ensures.rank
+    c.loop-i-test.true c.requires.few c.requires.whole c.arrival-arrival.result.0 c.arrival-arrival.ensures a.new.state a.result a.auto.state a.ensures.state a.ensures.rank
 
 pub shape_of-state : goal.shape_of-state
 shape_of-state c = c.loop-i.invariant.long
@@ -34,4 +34,5 @@ pub returns : goal.returns
 returns c =
     let A = c.args in
     let l = c.loop-i in
-    record { rank = (turning_end A.l A.list.now A.taken (whole A.l A.list.now A.taken A.state.now) A.state.now l.state l.rank l.i l.invariant c.loop-i-test.false).0; state = (turning_end A.l A.list.now A.taken (whole A.l A.list.now A.taken A.state.now) A.state.now l.state l.rank l.i l.invariant c.loop-i-test.false).1 }
+    let end = turning_end A.l A.list.now A.taken (whole A.l A.list.now A.taken A.state.now) A.state.now l.state l.rank l.i l.invariant c.loop-i-test.false in
+    record { rank = end.0; state = end.1 }

@@ -21,7 +21,7 @@ room : (t : ℕ) (slots : List ℕ) → t < 64 → length slots ≡ slot_bytes �
 room t slots h all = part_room 80 64 t slots (omega (arith, slot-bytes)) h
 
 pub slice_bounds-copy-end : goal.slice_bounds-copy-end
-slice_bounds-copy-end c = omega (arith, room c.args.t c.args.slots.now c.requires.0 c.requires.1)
+slice_bounds-copy-end c = omega (arith, room c.args.t c.args.slots.now c.requires.slot c.requires.slots)
 
 -- the slots once the vector is there
 module _ (c : After-copy) where
@@ -32,10 +32,10 @@ module _ (c : After-copy) where
   is-laid =
       let at : ℕ = c.args.t * 80 in
       let size : at + 80 - at ≡ 80 = omega arith in
-      part_copied 80 at (at + 80 - at) c.args.slots.now c.args.vector.now c.copy.new.into size (room c.args.t c.args.slots.now c.requires.0 c.requires.1) c.requires.2 c.copy.ensures
+      part_copied 80 at (at + 80 - at) c.args.slots.now c.args.vector.now c.copy.new.into size (room c.args.t c.args.slots.now c.requires.slot c.requires.slots) c.requires.wide c.copy.ensures
 
   long : length laid ≡ 5632
-  long = length-lay (c.args.t * 80) c.args.vector.now c.args.slots.now (omega (arith, room c.args.t c.args.slots.now c.requires.0 c.requires.1, c.requires)) ∙ c.requires.1 ∙ slot-bytes
+  long = length-lay (c.args.t * 80) c.args.vector.now c.args.slots.now (omega (arith, room c.args.t c.args.slots.now c.requires.slot c.requires.slots, c.requires)) ∙ c.requires.slots ∙ slot-bytes
 
 pub slice_bounds-put_little-end : goal.slice_bounds-put_little-end
 slice_bounds-put_little-end c =

@@ -8,6 +8,6 @@ pub returns-then-is_set : goal.returns-then-is_set
 unfolding second_bit noted
 returns-then-is_set c = rw (sym c.is_set.ensures ∙ c.if-is_set.true) c.is_set-then-is_set.ensures
 
-pub returns : goal.returns
+pub returns-else-is_set : goal.returns-else-is_set
 unfolding noted
-returns c = rw (sym c.is_set.ensures ∙ c.if-is_set.false)
+returns-else-is_set c = rw (c.if-is_set.false, sym c.is_set.ensures ∙ c.if-is_set.false)

@@ -1,13 +1,8 @@
 -- `is_set` meets its contract: the byte is shifted down to the bit.
 -- Assumes nothing.
-use native.Mathlib.Omega.{arith}
 use mathlib.Core.Path.{refl}
 use Rattle.filter.specs.Filter.{filter_bytes, byte_of, is_set}
 use Rattle.filter.proofs.is_set.Goals as goal
-
-pub bounds-filter-bit : goal.bounds-filter-bit
-unfolding filter_bytes
-bounds-filter-bit c = omega (arith, c.requires)
 
 pub returns : goal.returns
 unfolding filter_bytes byte_of is_set

@@ -9,14 +9,6 @@ use Rattle.octets.proofs.Digits.{one_shl}
 use Rattle.filter.specs.Filter.{filter_bytes, byte_of, with_set}
 use Rattle.filter.proofs.set.Goals as goal
 
-pub bounds-filter-at : goal.bounds-filter-at
-unfolding filter_bytes
-bounds-filter-at c = omega (arith, c.requires)
-
-pub bounds-filter-at-2 : goal.bounds-filter-at-2
-unfolding filter_bytes
-bounds-filter-at-2 c = omega (arith, c.requires)
-
 pub returns : goal.returns
 unfolding filter_bytes byte_of with_set
 returns c =

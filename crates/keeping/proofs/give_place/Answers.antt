@@ -13,10 +13,10 @@ use native.Mathlib.Omega.{arith}
 use Rattle.keeping.proofs.give_place.Goals as goal
 
 pub slice_bounds-give-end : goal.slice_bounds-give-end
-slice_bounds-give-end c = omega (arith, sizes, c.requires.2)
+slice_bounds-give-end c = omega (arith, sizes, c.requires.whole)
 
 pub slice_bounds-no_uses-end : goal.slice_bounds-no_uses-end
-slice_bounds-no_uses-end c = omega (arith, sizes, c.state-1.given, c.requires.2)
+slice_bounds-no_uses-end c = omega (arith, sizes, c.state-1.given, c.requires.whole)
 
 pub returns : goal.returns
 unfolding uses_at places_at placed_state
@@ -26,11 +26,11 @@ returns c =
     let m = c.args.arrival.0 in
     let state : List ℕ = c.args.state.now in
     let after : List ℕ = put_mid 26240 1024 state g.new.places in
-    let next : (r + 1) % 65536 ≡ r + 1 = omega (arith, sizes, c.requires.1) in
+    let next : (r + 1) % 65536 ≡ r + 1 = omega (arith, sizes, c.requires.rank) in
     let given : after ≡ lay (26240 + 2 * m) (bytes 2 (r + 1)) state =
-    pair-part 26240 1024 m ((r + 1) % 65536) state g.new.places (omega (arith, c.requires.0)) (omega (arith, sizes, c.requires.2)) g.ensures.places
+    pair-part 26240 1024 m ((r + 1) % 65536) state g.new.places (omega (arith, c.requires.arrival)) (omega (arith, sizes, c.requires.whole)) g.ensures.places
     ∙ ap (λ (x : ℕ). lay (26240 + 2 * m) (bytes 2 x) state) next in record {
       place = g.ensures.place;
-      state = pair-part 25600 640 g.result.0 0 after c.no_uses.new.counts (omega (arith, sizes, g.ensures.place, c.requires.1)) (omega (arith, sizes, c.state-1.given, c.requires.2)) c.no_uses.ensures
+      state = pair-part 25600 640 g.result.0 0 after c.no_uses.new.counts (omega (arith, sizes, g.ensures.place, c.requires.rank)) (omega (arith, sizes, c.state-1.given, c.requires.whole)) c.no_uses.ensures
           ∙ ap (λ (p : ℕ). lay (25600 + 2 * p) (bytes 2 0) after) g.ensures.place ∙ ap (lay (25600 + 2 * r) (bytes 2 0)) given;
     }

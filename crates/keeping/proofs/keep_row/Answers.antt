@@ -12,15 +12,15 @@ use Rattle.keeping.proofs.keep_row.Goals as goal
 pub give_place-place-requires : goal.give_place-place-requires
 give_place-place-requires c =
     let K = c.requires in
-    (K.arrival, K.rank, K.whole)
+    record { arrival = K.arrival; rank = K.rank; whole = K.whole }
 
 pub put_head-requires : goal.put_head-requires
-put_head-requires c = (c.requires.slot, omega (arith, c.give_place-place.auto.state, c.requires.whole))
+put_head-requires c = record { slot = c.requires.slot; whole = omega (arith, c.give_place-place.auto.state, c.requires.whole) }
 
 pub put_vector-requires : goal.put_vector-requires
 put_vector-requires c =
     let K = c.requires in
-    (omega (arith, K.slot, K.rank), rw c.give_place-place.ensures.place K.rank, omega (arith, c.put_head.auto.state, c.give_place-place.auto.state, K.whole), K.wide)
+    record { slot = K.slot; place = rw c.give_place-place.ensures.place K.rank; wide = K.wide; whole = omega (arith, c.put_head.auto.state, c.give_place-place.auto.state, K.whole) }
 
 pub returns : goal.returns
 unfolding row_kept

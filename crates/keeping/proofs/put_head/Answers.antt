@@ -8,9 +8,9 @@ use Rattle.state.proofs.Sizes.{sizes}
 use Rattle.keeping.proofs.put_head.Goals as goal
 
 pub slice_bounds-put_head-end : goal.slice_bounds-put_head-end
-slice_bounds-put_head-end c = omega (arith, sizes, c.requires.1)
+slice_bounds-put_head-end c = omega (arith, sizes, c.requires.whole)
 
 pub returns : goal.returns
 unfolding head_at heads_at
 returns c =
-    head-part 27264 2560 c.args.t c.args.vector.now c.args.state.now c.put_head.new.heads (omega (arith, sizes, c.requires.0)) (omega (arith, sizes, c.requires.1)) c.put_head.ensures
+    head-part 27264 2560 c.args.t c.args.vector.now c.args.state.now c.put_head.new.heads (omega (arith, sizes, c.requires.slot)) (omega (arith, sizes, c.requires.whole)) c.put_head.ensures

@@ -15,10 +15,10 @@ use Rattle.state.proofs.Sizes.{sizes}
 use Rattle.keeping.proofs.put_vector.Goals as goal
 
 pub slice_bounds-put-end : goal.slice_bounds-put-end
-slice_bounds-put-end c = omega (arith, sizes, c.requires.2)
+slice_bounds-put-end c = omega (arith, sizes, c.requires.whole)
 
 pub slice_bounds-put-end-2 : goal.slice_bounds-put-end-2
-slice_bounds-put-end-2 c = sym (length-take-le _ c.args.state.now (omega (arith, sizes, c.requires.2)))
+slice_bounds-put-end-2 c = sym (length-take-le _ c.args.state.now (omega (arith, sizes, c.requires.whole)))
 
 pub returns : goal.returns
 unfolding named
@@ -26,8 +26,8 @@ returns c =
     let t = c.args.t in
     let r = c.args.place.0 in
     let vector : List _ = c.args.vector.now in
-    let slot : t < 25600 / vector_bytes = unfold vector_bytes in omega (arith, sizes, c.requires.0) in
-    let inside : r / 8 < vector_bytes = omega (arith, sizes, c.requires.1) in
-    let digit : named r vector ≡ bytes vector_bytes (number vector ⊕ 2 ^ r) = rw (c.requires.3, lt-ltb (r / 8) vector_bytes inside) in
-    slot-part 25600 t r vector c.args.state.now c.put.new.slots c.requires.3 slot (omega (arith, sizes, c.requires.2)) c.put.ensures
+    let slot : t < 25600 / vector_bytes = unfold vector_bytes in omega (arith, sizes, c.requires.slot) in
+    let inside : r / 8 < vector_bytes = omega (arith, sizes, c.requires.place) in
+    let digit : named r vector ≡ bytes vector_bytes (number vector ⊕ 2 ^ r) = rw (c.requires.wide, lt-ltb (r / 8) vector_bytes inside) in
+    slot-part 25600 t r vector c.args.state.now c.put.new.slots c.requires.wide slot (omega (arith, sizes, c.requires.whole)) c.put.ensures
     ∙ ap (λ (v : List _). lay (t * vector_bytes) v c.args.state.now) digit

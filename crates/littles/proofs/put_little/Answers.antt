@@ -31,14 +31,11 @@ module _ (old : List ℕ) (x : ℕ) where
       filling_end (little_bytes (length old) x) old (length old) (length-little_bytes (length old) x) (omega arith) new i w.fills h
       ∙ over-all (little_bytes (length old) x) old (length-little_bytes (length old) x)
 
-pub loop-i-init : goal.loop-i-init
-loop-i-init c = start _ _
+pub loop-byte-init : goal.loop-byte-init
+loop-byte-init c = start _ _
 
-pub loop-i-preserved : goal.loop-i-preserved
-loop-i-preserved c = turn _ _ _ _ _ c.loop-i.invariant c.loop-i-test.true
-
-pub shape_of-into : goal.shape_of-into
-shape_of-into c = c.loop-i.invariant.fills.long
+pub loop-byte-preserved : goal.loop-byte-preserved
+loop-byte-preserved c = turn _ _ _ _ _ c.loop-byte.invariant c.loop-byte-test.true
 
 pub returns : goal.returns
-returns c = end _ _ _ _ _ c.loop-i.invariant c.loop-i-test.false
+returns c = end _ _ _ _ _ c.loop-byte.invariant c.loop-byte-test.false

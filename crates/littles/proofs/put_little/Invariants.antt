@@ -1,6 +1,6 @@
 use mathlib.Core.Path.{◌≡◌}
 use mathlib.Core.List.{List}
-use Prim.Native.Nat.{ℕ, ◌-◌, ◌*◌, ◌/◌, ◌^◌}
+use Prim.Native.Nat.{ℕ, ◌*◌, ◌/◌, ◌^◌}
 use lib.ListN.{length}
 use Rattle.octets.proofs.Fill.{Filling}
 use Rattle.littles.specs.Littles.{little_bytes}
@@ -11,8 +11,5 @@ pub record Written (old new : List ℕ) (x rest i : ℕ) : Type 0 where
   pub fills : Filling (little_bytes (length old) x) old new (length old) i
   pub left : rest ≡ x / 2 ^ (8 * i)
 
-abbrev pub invariant-loop-i : goal.invariant-loop-i
-invariant-loop-i l = Written l.initial.into l.into l.x l.rest l.i
-
-abbrev pub decreases-loop-i : goal.decreases-loop-i
-decreases-loop-i l = length l.initial.into - l.i
+abbrev pub invariant-loop-byte : goal.invariant-loop-byte
+invariant-loop-byte l = Written l.initial.into l.into l.x l.rest l.byte-index

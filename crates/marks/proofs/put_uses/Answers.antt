@@ -1,30 +1,25 @@
 -- `marks::put_uses` meets its contract: a loop that marks arrival by arrival, where there is room for each.
 -- Assumes nothing.
-use borrow.Author.Tests.{le-leb, lt-leb}
-use Rattle.marks.specs.Mark.{uses_marked, uses_after}
-use Rattle.marks.proofs.Marking.{marking_start, marking_inside, marking_more, marking_end}
+use Prim.Native.Nat.{◌/◌}
+use native.Mathlib.Omega.{arith}
+use lib.ListN.{length}
+use borrow.Author.Tests.{le-leb}
+use Rattle.places.specs.Places.{given_by}
+use Rattle.marks.specs.Mark.{uses_of, uses_marked}
+use Rattle.marks.proofs.Marking.{marked_more, marked_end}
 use Rattle.marks.proofs.put_uses.Goals as goal
 
-pub returns-then-uses-rows : goal.returns-then-uses-rows
-unfolding uses_after
-returns-then-uses-rows c = rw (lt-leb _ _ c.if-uses-rows.true)
-
-pub loop-arrival-init : goal.loop-arrival-init
-loop-arrival-init c = marking_start _ _ _ _
-
-pub set_uses-requires : goal.set_uses-requires
-set_uses-requires c = marking_inside _ _ _ _ c.if-uses-rows.false _ _ c.loop-arrival.invariant c.loop-arrival-test.true
-
 pub loop-arrival-preserved : goal.loop-arrival-preserved
-loop-arrival-preserved c =
-    let loop = c.loop-arrival in
-    marking_more _ _ _ _ c.if-uses-rows.false loop.uses loop.arrival loop.invariant c.loop-arrival-test.true
-    c.uses_at.result c.uses_at.ensures _ c.set_uses.ensures
-
-pub shape_of-uses : goal.shape_of-uses
-shape_of-uses c = c.loop-arrival.invariant.long
+loop-arrival-preserved g c =
+    let form = g.U.Uses in
+    marked_more form.room_in form.put_at form.written c.room.ensures.one_more (λ x. uses_of c.args.counts.now (given_by x)) c.args.places.now c.args.uses.now
+    c.loop-arrival.arrival c.loop-arrival-test.true (omega (arith, c.if-room-rows.false, c.room.ensures.room)) c.uses_at.result c.uses_at.ensures
+    c.loop-arrival.uses c.put.new.uses c.loop-arrival.invariant c.put.ensures
 
 pub returns : goal.returns
-unfolding uses_after uses_marked
-returns c =
-    rw (le-leb _ _ c.if-uses-rows.false) (marking_end _ _ _ _ c.if-uses-rows.false _ _ c.loop-arrival.invariant c.loop-arrival-test.false)
+unfolding uses_marked
+returns g c =
+    let form = g.U.Uses in
+    rw (le-leb (length c.args.places.now / 2) (form.room_in (length c.args.uses.now)) (omega (arith, c.if-room-rows.false, c.room.ensures.room)))
+    (marked_end form.room_in form.put_at form.written c.room.ensures.one_more (λ x. uses_of c.args.counts.now (given_by x)) c.args.places.now c.args.uses.now
+    c.loop-arrival.arrival c.loop-arrival-test.false c.loop-arrival.uses c.loop-arrival.invariant)

@@ -1,12 +1,10 @@
-use Prim.Native.Nat.{◌-◌, ◌/◌}
-use lib.ListN.{length}
 use Rattle.places.specs.Places.{given_by}
 use Rattle.marks.specs.Mark.{uses_of}
-use Rattle.marks.proofs.Marking.{whole, Marking}
+use mathlib.Core.Path.{◌≡◌}
+use mathlib.Core.List.{map}
+use lib.ListN.{take}
+use Rattle.doubles.specs.Doubles.{pairs_in}
 use Rattle.marks.proofs.put_uses.Given as goal
 
 abbrev pub invariant-loop-arrival : goal.invariant-loop-arrival
-invariant-loop-arrival l = Marking whole (λ x. uses_of l.counts (given_by x)) l.places l.initial.uses l.uses l.arrival
-
-abbrev pub decreases-loop-arrival : goal.decreases-loop-arrival
-decreases-loop-arrival l = length l.places / 2 - l.arrival
+invariant-loop-arrival g l = l.uses ≡ g.U.Uses.written (take l.arrival (map (λ x. uses_of l.counts (given_by x)) (pairs_in l.places))) l.initial.uses

@@ -5,6 +5,8 @@ use mathlib.Core.Bool.{true, false}
 use mathlib.Core.List.{List}
 use Prim.Native.Nat.{ℕ, ◌≤◌}
 use lib.ListN.{length}
+use Rattle.words.specs.Words.{four_of}
+use Rattle.lists.specs.Lists.{entry_at}
 use Rattle.noting.specs.Noting.{noted_in, noted_state}
 use Rattle.repeats.specs.Repeats.{repeated}
 use Rattle.store.specs.Store.{store_bytes, list_in, working_in, with_working}
@@ -28,23 +30,26 @@ unfolding store_bytes
 long c = c.if-store-lt-BYTES.false
 
 told : (c : After-note) → let A = c.args in c.note.result ≡ noted_in (seed_in A.l A.arrival.0 A.store.now) (working_in A.store.now)
-told c = let A = c.args in c.note.ensures.answer ∙ ap (λ (s : ℕ). noted_in s (working_in A.store.now)) c.seed.ensures
+unfolding seed_in
+told c = let A = c.args in c.note.ensures.answer ∙ ap (λ (s : ℕ). noted_in s (working_in A.store.now)) (c.seed-seed.ensures ∙ ap (λ (list : List ℕ). four_of (entry_at c.args.l c.args.arrival.0 list)) c.list.ensures.shows)
 
 left : (c : After-note)
     → let A = c.args in c.note.new.store ≡ with_working (noted_state (seed_in A.l A.arrival.0 A.store.now) (working_in A.store.now)) A.store.now
-left c = let A = c.args in c.note.ensures.store ∙ ap (λ (s : ℕ). with_working (noted_state s (working_in A.store.now)) A.store.now) c.seed.ensures
+unfolding seed_in
+left c = let A = c.args in c.note.ensures.store ∙ ap (λ (s : ℕ). with_working (noted_state s (working_in A.store.now)) A.store.now) (c.seed-seed.ensures ∙ ap (λ (list : List ℕ). four_of (entry_at c.args.l c.args.arrival.0 list)) c.list.ensures.shows)
 
 pub returns-then-note : goal.returns-then-note
 returns-then-note c =
     let k = (goal.at.returns-then-note c).After-note in
     let A = c.args in
     let rest = ap list_in (left k) ∙ noted-list A.l A.arrival.0 A.store.now (long k) in record {
-      answer = c.is_repeat.ensures ∙ ap (λ (list : List ℕ). repeated A.l A.arrival.0 list) (c.list.ensures.shows ∙ rest)
+      answer = c.is_repeat.ensures ∙ ap (λ (list : List ℕ). repeated A.l A.arrival.0 list) (c.list-then-note.ensures.shows ∙ rest)
           ∙ sym (repeat_is A.l A.arrival.0 A.store.now (long k) true (sym (told k) ∙ c.if-note.true));
       store = left k ∙ sym (noticed_is A.l A.arrival.0 A.store.now (long k));
     }
 
-pub returns : goal.returns
-returns c =
-    let k = (goal.at.returns c).After-note in
-    let A = c.args in record { answer = sym (repeat_is A.l A.arrival.0 A.store.now (long k) false (sym (told k) ∙ c.if-note.false)); store = left k ∙ sym (noticed_is A.l A.arrival.0 A.store.now (long k)) }
+pub returns-else-note : goal.returns-else-note
+returns-else-note c =
+    let k = (goal.at.returns-else-note c).After-note in
+    let A = c.args in
+    record { answer = c.if-note.false ∙ sym (repeat_is A.l A.arrival.0 A.store.now (long k) false (sym (told k) ∙ c.if-note.false)); store = left k ∙ sym (noticed_is A.l A.arrival.0 A.store.now (long k)) }

@@ -45,12 +45,3 @@ loop-i-preserved c =
     let l = c.loop-i in
     let next : l.i ≡ l.i - 1 + 1 = omega arith in
     turn _ _ _ _ (l.i - 1) (rw next at l.invariant)
-
-pub shape_of-into : goal.shape_of-into
-shape_of-into c = c.loop-i.invariant.long
-
-pub returns : goal.returns
-returns c =
-    let l = c.loop-i in
-    let done : l.i ≡ 0 = omega arith in
-    rw done at l.invariant.holds

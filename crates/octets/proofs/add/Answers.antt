@@ -9,11 +9,8 @@ use lib.ListN.{length, get_or, set}
 use Rattle.space.specs.Space.{◌⊕◌}
 use Rattle.octets.specs.Octets.{xor_bytes, add_front}
 use Rattle.octets.proofs.Xors.{length-xor_bytes-min, get_or-xor_bytes, add_front-over}
-use Rattle.octets.proofs.Fill.{Filling, filling_start, filling_more, filling_at, filling_end}
+use Rattle.octets.proofs.Fill.{Filling, filling_more, filling_at, filling_end}
 use Rattle.octets.proofs.add.Goals as goal
-
-pub loop-i-init : goal.loop-i-init
-loop-i-init c = filling_start _ _ _
 
 module _ (a b : List ℕ) (n : ℕ) (e : n ≡ min (length a) (length b)) where
   size : length (xor_bytes a b) ≡ n
@@ -29,10 +26,7 @@ module _ (a b : List ℕ) (n : ℕ) (e : n ≡ min (length a) (length b)) where
   end now i f h = filling_end (xor_bytes a b) a n size (omega arith) now i f h ∙ sym (add_front-over a b)
 
 pub loop-i-preserved : goal.loop-i-preserved
-loop-i-preserved c = turn _ _ _ c.least-n.ensures _ _ c.loop-i.invariant c.loop-i-test.true
-
-pub shape_of-into : goal.shape_of-into
-shape_of-into c = c.loop-i.invariant.long
+loop-i-preserved c = turn _ _ _ c.min-i-end.ensures _ _ c.loop-i.invariant c.loop-i-test.true
 
 pub returns : goal.returns
-returns c = end _ _ _ c.least-n.ensures _ _ c.loop-i.invariant c.loop-i-test.false
+returns c = end _ _ _ c.min-i-end.ensures _ _ c.loop-i.invariant c.loop-i-test.false

@@ -6,7 +6,8 @@ use mathlib.Core.List.{List}
 use Prim.Native.Nat.{ℕ, ◌*◌}
 use lib.ListN.{length, take, drop}
 use Rattle.rows.specs.Rows.{list_row_bytes}
-use Rattle.laying.specs.declared.Laid.{Laid}
+use Rattle.std.proofs.Common.{Result}
+use Rattle.laying.specs.declared.Refusal.{Refusal}
 use Rattle.laying.specs.Laying.{laid, list_after, frame_entry}
 use Rattle.store.specs.Store.{list_at, list_room, list_in, with_list}
 use Rattle.store.proofs.Sizes.{sizes}
@@ -29,5 +30,5 @@ returns c =
       store = list_back A.store.now c.requires 16 32752 L.new.list (unfold list_at in refl)
           (L.auto.list ∙ ap length lent ∙ length-list A.store.now c.requires ∙ omega (arith, sizes))
           ∙ ap (λ (list : List ℕ). with_list list A.store.now)
-          (L.ensures.list ∙ ap₂ (λ (a : Laid) (list : List ℕ). list_after a (list_row_bytes A.head.l * A.head.rows) (frame_entry A.frame.now) list) said lent);
+          (L.ensures.list ∙ ap₂ (λ (a : Result Unit Refusal) (list : List ℕ). list_after a (list_row_bytes A.head.l * A.head.rows) (frame_entry A.frame.now) list) said lent);
     }

@@ -25,7 +25,7 @@ noting c =
 pub returns-then-note : goal.returns-then-note
 returns-then-note c = record { answer = c.is_repeat.ensures; state = (noting (goal.at.returns-then-note c).After-note).1 }
 
-pub returns : goal.returns
-returns c =
-    let N = noting (goal.at.returns c).After-note in
-    record { answer = told-new c.args.l c.args.arrival.0 c.args.list.now c.args.state.now c.requires (sym N.0 ∙ c.if-note.false); state = N.1 }
+pub returns-else-note : goal.returns-else-note
+returns-else-note c =
+    let N = noting (goal.at.returns-else-note c).After-note in
+    record { answer = c.if-note.false ∙ told-new c.args.l c.args.arrival.0 c.args.list.now c.args.state.now c.requires (sym N.0 ∙ c.if-note.false); state = N.1 }

@@ -8,26 +8,21 @@ use Rattle.order.proofs.take_each.Goals as goal
 pub loop-i-init : goal.loop-i-init
 loop-i-init c =
     let F = c.forget in
-    writing_start c.args.l c.args.list.now F.new.state c.args.state.now c.args.m c.requires.2 F.ensures
+    writing_start c.args.l c.args.list.now F.new.state c.args.state.now c.args.m c.requires.whole F.ensures
 
 pub take_row-taken-requires : goal.take_row-taken-requires
 take_row-taken-requires c =
     let F = c.forget in
     let l = c.loop-i in
-    writing_next c.args.l c.args.list.now F.new.state c.args.m c.requires.0 c.requires.1 (omega (arith, c.requires.2, F.auto.state)) l.state l.i l.taken l.invariant c.loop-i-test.true
-
-pub overflow_step-i : goal.overflow_step-i
-overflow_step-i c = omega (arith, c.loop-i-test.true)
-
-pub loop-i-smaller : goal.loop-i-smaller
-loop-i-smaller c = omega (arith, c.loop-i-test.true)
+    let next = writing_next c.args.l c.args.list.now F.new.state c.args.m c.requires.rows c.requires.many (omega (arith, c.requires.whole, F.auto.state)) l.state l.i l.taken l.invariant c.loop-i-test.true in
+    record { next = next.0; few = next.1 }
 
 pub loop-i-preserved : goal.loop-i-preserved
 loop-i-preserved c =
     let F = c.forget in
     let l = c.loop-i in
     let T = c.take_row-taken in
-    writing_more c.args.l c.args.list.now F.new.state c.args.m c.requires.0 c.requires.1 (omega (arith, c.requires.2, F.auto.state)) l.state l.i l.taken l.invariant
+    writing_more c.args.l c.args.list.now F.new.state c.args.m c.requires.rows c.requires.many (omega (arith, c.requires.whole, F.auto.state)) l.state l.i l.taken l.invariant
     c.loop-i-test.true T.new.state T.result T.ensures.answer T.ensures.state T.auto.state
 
 pub shape_of-state : goal.shape_of-state
@@ -37,9 +32,6 @@ pub returns : goal.returns
 returns c =
     let F = c.forget in
     let l = c.loop-i in
-    record {
-      answer = (writing_end c.args.l c.args.list.now F.new.state c.args.m c.requires.0 c.requires.1 (omega (arith, c.requires.2, F.auto.state)) l.state l.i l.taken l.invariant
-          c.loop-i-test.false c.args.state.now c.requires.2 F.ensures).0;
-      state = (writing_end c.args.l c.args.list.now F.new.state c.args.m c.requires.0 c.requires.1 (omega (arith, c.requires.2, F.auto.state)) l.state l.i l.taken l.invariant
-          c.loop-i-test.false c.args.state.now c.requires.2 F.ensures).1;
-    }
+    let both = writing_end c.args.l c.args.list.now F.new.state c.args.m c.requires.rows c.requires.many (omega (arith, c.requires.whole, F.auto.state)) l.state l.i l.taken l.invariant
+    c.loop-i-test.false c.args.state.now c.requires.whole F.ensures in
+    record { answer = both.0; state = both.1 }

@@ -15,11 +15,11 @@ use Rattle.page_of_slots.proofs.symbol.Goals as goal
 use Rattle.page_of_slots.proofs.symbol.Goals.{After-pass}
 
 pub unit-requires : goal.unit-requires
-unit-requires c = (omega (arith, c.requires.0.one), c.requires.1)
+unit-requires c = record { wide = omega (arith, c.requires.ready.one); bit = c.requires.bit }
 
 -- what the pass leaves is as long as work
 long : (c : After-pass) → length c.pass.new.work ≡ 80
-long c = c.pass.auto.work ∙ c.unit.auto.work ∙ c.requires.0.one
+long c = c.pass.auto.work ∙ c.unit.auto.work ∙ c.requires.ready.one
 
 pub slice_bounds-copy-count : goal.slice_bounds-copy-count
 slice_bounds-copy-count c = omega (arith, long (goal.at.slice_bounds-copy-count c).After-pass)
@@ -33,8 +33,8 @@ returns c =
     let left : List ℕ = c.pass.new.work in
     let part : List ℕ = take (length out) (drop 8 left) in
     let all : take (length left - 8) (drop 8 left) ≡ drop 8 left = take_all (length left - 8) (drop 8 left) (omega (arith, length-drop 8 left)) in
-    let size : length part ≡ length out = length-take-le (length out) (drop 8 left) (omega (arith, length-drop 8 left, long (goal.at.returns c).After-pass, c.requires.0.most)) in
-    let unit : c.unit.new.work ≡ unit_of 80 c.args.k = c.unit.ensures ∙ ap (λ (w : ℕ). unit_of w c.args.k) c.requires.0.one in
+    let size : length part ≡ length out = length-take-le (length out) (drop 8 left) (omega (arith, length-drop 8 left, long (goal.at.returns c).After-pass, c.requires.ready.most)) in
+    let unit : c.unit.new.work ≡ unit_of 80 c.args.k = c.unit.ensures ∙ ap (λ (w : ℕ). unit_of w c.args.k) c.requires.ready.one in
     c.copy.ensures ∙ ap (λ (t : List ℕ). over (take (length out) t) out) all ∙ over-all part out size
-    ∙ symbol-left (length out) c.args.k c.args.slots.now c.unit.new.work left (omega (arith, c.requires.0.most)) c.requires.1 unit
-    (c.pass.ensures.left ∙ whole-left c.args.slots.now c.unit.new.work (c.unit.auto.work ∙ c.requires.0.one) c.requires.0.all)
+    ∙ symbol-left (length out) c.args.k c.args.slots.now c.unit.new.work left (omega (arith, c.requires.ready.most)) c.requires.bit unit
+    (c.pass.ensures.left ∙ whole-left c.args.slots.now c.unit.new.work (c.unit.auto.work ∙ c.requires.ready.one) c.requires.ready.all)

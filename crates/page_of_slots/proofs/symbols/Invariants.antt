@@ -1,4 +1,4 @@
-use Prim.Native.Nat.{ℕ, ◌+◌, ◌-◌}
+use Prim.Native.Nat.{ℕ, ◌+◌}
 use mathlib.Core.List.{List}
 use Rattle.page_of_slots.specs.Symbols.{slots_in, symbol_in}
 use Rattle.page_of_slots.specs.Parts.{Ready}
@@ -10,7 +10,4 @@ abbrev pub symbol_of : ℕ → List ℕ → ℕ → ℕ
 symbol_of l slots = symbol_in l (slots_in (8 + l) slots)
 
 abbrev pub invariant-loop-k : goal.invariant-loop-k
-invariant-loop-k l = Writing l.n l.l (symbol_of l.l l.slots) l.initial.page l.page l.k l.at × Ready (8 + l.l) l.work l.slots
-
-abbrev pub decreases-loop-k : goal.decreases-loop-k
-decreases-loop-k l = l.n - l.k
+invariant-loop-k l = record { writing : Writing l.n l.l (symbol_of l.l l.slots) l.initial.page l.page l.k; ready : Ready (8 + l.l) l.work l.slots }

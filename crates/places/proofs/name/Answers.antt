@@ -1,15 +1,11 @@
 -- `places::name` meets its contract: the byte of the digit changes, and no other.
 -- Assumes nothing.
-use borrow.Author.Tests.{lt-ltb, le-ltb}
+use borrow.Author.Tests.{lt-ltb}
 use Rattle.octets.proofs.Runs.{known_below}
 use Rattle.places.specs.Places.{named}
 use Rattle.places.proofs.Turned.{digit_turned}
 use native.Mathlib.Omega.{arith}
 use Rattle.places.proofs.name.Goals as goal
-
-pub returns-then-n-j : goal.returns-then-n-j
-unfolding named
-returns-then-n-j c = rw (le-ltb _ _ c.if-n-j.true)
 
 pub returns : goal.returns
 unfolding named

@@ -16,7 +16,7 @@ use Rattle.reader.proofs.read_in.Goals.{Start}
 -- the scratch is long enough
 wide : (S : Start) → 32768 ≤ length S.args.scratch.now
 unfolding scratch_bytes
-wide S = S.requires.1
+wide S = S.requires.room
 
 pub slice_bounds-read_rows-end : goal.slice_bounds-read_rows-end
 slice_bounds-read_rows-end c = omega (arith, wide (goal.at.slice_bounds-read_rows-end c).Start)
@@ -29,9 +29,9 @@ pub read_rows-requires : goal.read_rows-requires
 unfolding state_bytes
 read_rows-requires c =
     record {
-      uses = c.requires.0.uses;
-      scratch = c.requires.0.scratch;
-      passes = c.requires.0.passes;
+      uses = c.requires.passing.uses;
+      scratch = c.requires.passing.scratch;
+      passes = c.requires.passing.passes;
       whole = omega (arith, length-take-le 31872 c.args.scratch.now (omega (arith, wide (goal.at.read_rows-requires c).Start)));
     }
 
@@ -40,4 +40,4 @@ unfolding state_bytes
 returns c =
     let R = c.read_rows in
     let state : List ℕ = R.new.state in
-    let whole : 31872 ≤ length state = omega (arith, R.auto.state, length-take-le 31872 c.args.scratch.now (omega (arith, wide (goal.at.returns c).Start))) in record { reads = reads-longer c.args.n c.args.l c.args.list.now c.args.page.now c.args.roles.now R.result R.new.page R.new.roles state (drop 31872 c.args.scratch.now) whole R.ensures; behind = cleared_anew c.args.scratch.now state c.requires.1 R.auto.state }
+    let whole : 31872 ≤ length state = omega (arith, R.auto.state, length-take-le 31872 c.args.scratch.now (omega (arith, wide (goal.at.returns c).Start))) in record { reads = reads-longer c.args.n c.args.l c.args.list.now c.args.page.now c.args.roles.now R.result R.new.page R.new.roles state (drop 31872 c.args.scratch.now) whole R.ensures; behind = cleared_anew c.args.scratch.now state c.requires.room R.auto.state }

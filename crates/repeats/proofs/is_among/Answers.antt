@@ -15,23 +15,11 @@ use Rattle.repeats.proofs.is_among.Goals.{After-same, In-loop-i}
 pub loop-i-init : goal.loop-i-init
 loop-i-init c = let A = c.args in behind-start A.entry.now A.list.now A.m
 
-pub overflow_sub-i : goal.overflow_sub-i
-overflow_sub-i c = omega (arith, c.loop-i-test.true)
-
 -- where the entry lies that a turn looks at
 room : (c : In-loop-i) → (c.loop-i.i - 1) * length c.args.entry.now + length c.args.entry.now
     ≤ length c.args.list.now
 room c =
-    behind-room c.args.entry.now c.args.list.now c.args.m c.requires.0 c.loop-i.i c.loop-i.invariant c.loop-i-test.true
-
-pub overflow_mul-at : goal.overflow_mul-at
-overflow_mul-at c = omega (arith, room c, c.well_formed)
-
-pub overflow_add-end : goal.overflow_add-end
-overflow_add-end c = omega (arith, room c, c.well_formed)
-
-pub slice_bounds-same-end : goal.slice_bounds-same-end
-slice_bounds-same-end c = room c
+    behind-room c.args.entry.now c.args.list.now c.args.m c.requires.room c.loop-i.i c.loop-i.invariant c.loop-i-test.true
 
 -- its bytes
 part : (i w : ℕ) (list : List ℕ) → take ((i - 1) * w + w - (i - 1) * w) (drop ((i - 1) * w) list) ≡ take w (drop ((i - 1) * w) list)
@@ -40,7 +28,10 @@ part i w list = let wide : (i - 1) * w + w - (i - 1) * w ≡ w = omega arith in 
 pub same-requires : goal.same-requires
 same-requires c =
     let w = length c.args.entry.now in
-    (sym (ap length (part c.loop-i.i w c.args.list.now) ∙ length_part w ((c.loop-i.i - 1) * w) c.args.list.now (room (goal.at.same-requires c).In-loop-i)), c.requires.1)
+    record {
+      as_long = sym (ap length (part c.loop-i.i w c.args.list.now) ∙ length_part w ((c.loop-i.i - 1) * w) c.args.list.now (room (goal.at.same-requires c).In-loop-i));
+      wide = c.requires.wide;
+    }
 
 looked : (c : After-same) → c.same.result ≡
     eqb (number c.args.entry.now) (number (take (length c.args.entry.now)
@@ -52,16 +43,13 @@ looked c =
 pub returns-then-same : goal.returns-then-same
 returns-then-same c =
     let l = c.loop-i in
-    behind_found c.args.entry.now c.args.list.now c.args.m c.requires.0 l.i l.invariant c.loop-i-test.true
+    behind_found c.args.entry.now c.args.list.now c.args.m c.requires.room l.i l.invariant c.loop-i-test.true
     (sym (looked (goal.at.returns-then-same c).After-same) ∙ c.if-same.true)
-
-pub loop-i-smaller : goal.loop-i-smaller
-loop-i-smaller c = omega (arith, c.loop-i-test.true)
 
 pub loop-i-preserved : goal.loop-i-preserved
 loop-i-preserved c =
     let l = c.loop-i in
-    behind_less c.args.entry.now c.args.list.now c.args.m c.requires.0 l.i l.invariant c.loop-i-test.true
+    behind_less c.args.entry.now c.args.list.now c.args.m c.requires.room l.i l.invariant c.loop-i-test.true
     (sym (looked (goal.at.loop-i-preserved c).After-same) ∙ c.if-same.false)
 
 pub returns : goal.returns

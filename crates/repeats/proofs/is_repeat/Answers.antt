@@ -21,7 +21,7 @@ found c =
     some_repeat A.l A.arrival.0 A.list.now (λ e. c.if-entry-eq0.false (ap length c.entry-entry.ensures.shows ∙ e))
 
 pub is_among-requires : goal.is_among-requires
-is_among-requires c = (rw c.entry-entry.ensures.shows (found c).room, rw c.entry-entry.ensures.shows (found c).wide)
+is_among-requires c = record { room = rw c.entry-entry.ensures.shows (found c).room; wide = rw c.entry-entry.ensures.shows (found c).wide }
 
 pub returns : goal.returns
 returns c =

@@ -1,12 +1,11 @@
-use Prim.Native.Nat.{◌-◌, ◌/◌}
-use lib.ListN.{length}
+use mathlib.Core.Path.{◌≡◌}
+use mathlib.Core.List.{map}
+use lib.ListN.{take}
+use Rattle.octets.specs.Octets.{over}
+use Rattle.doubles.specs.Doubles.{pairs_in}
 use Rattle.places.specs.Places.{given_by}
 use Rattle.roles.specs.Role.{role_of}
-use Rattle.marks.proofs.Marking.{whole, Marking}
 use Rattle.roles.proofs.put_roles.Given as goal
 
 abbrev pub invariant-loop-arrival : goal.invariant-loop-arrival
-invariant-loop-arrival l = Marking whole (λ x. role_of l.least l.counts (given_by x)) l.places l.initial.roles l.roles l.arrival
-
-abbrev pub decreases-loop-arrival : goal.decreases-loop-arrival
-decreases-loop-arrival l = length l.places / 2 - l.arrival
+invariant-loop-arrival l = l.roles ≡ over (take l.arrival (map (λ x. role_of l.least l.counts (given_by x)) (pairs_in l.places))) l.initial.roles

@@ -13,21 +13,9 @@ use Rattle.octets.proofs.Parts.{back}
 use Rattle.octets.proofs.Views.{length_part}
 use Rattle.places.specs.Places.{named}
 use Rattle.slotting.specs.Slotting.{vector_bytes}
-use Rattle.slotting.proofs.Fits.{no_vector, no_slot, slotted_is, length-named}
+use Rattle.slotting.proofs.Fits.{slotted_is, length-named}
 use Rattle.slotting.proofs.put.Goals as goal
 use Rattle.slotting.proofs.put.Goals.{After-copy}
-
-pub returns-then-vector-ne-VECTOR : goal.returns-then-vector-ne-VECTOR
-unfolding vector_bytes
-returns-then-vector-ne-VECTOR c =
-    let A = c.args in
-    no_vector A.t A.vector.now A.place.0 A.slots.now c.if-vector-ne-VECTOR.true
-
-pub returns-then-slots-t : goal.returns-then-slots-t
-unfolding vector_bytes
-returns-then-slots-t c =
-    let A = c.args in
-    no_slot A.t A.vector.now A.place.0 A.slots.now c.if-vector-ne-VECTOR.false c.if-slots-t.true
 
 pub slice_bounds-copy-end-2 : goal.slice_bounds-copy-end-2
 slice_bounds-copy-end-2 c = sym (length-take-le _ c.args.vector.now (omega (arith, c.if-vector-ne-VECTOR.false)))

@@ -10,13 +10,8 @@ use Rattle.octets.proofs.Parts.{back}
 use Rattle.octets.proofs.Views.{length_part}
 use Rattle.littles.specs.Littles.{little_bytes}
 use Rattle.slotting.specs.Slotting.{head_in, head_of}
-use Rattle.slotting.proofs.Fits.{no_head, headed_is, length-head_of}
+use Rattle.slotting.proofs.Fits.{headed_is, length-head_of}
 use Rattle.slotting.proofs.put_head.Goals as goal
-
-pub returns-then-heads-t : goal.returns-then-heads-t
-returns-then-heads-t c =
-    let A = c.args in
-    no_head A.t A.vector.now A.heads.now c.if-heads-t.true
 
 pub returns : goal.returns
 unfolding head_in head_of

@@ -8,15 +8,9 @@ use native.Mathlib.Omega.{arith}
 use lib.ListN.{length, drop}
 use lib.Seq.{length-take-le}
 use Rattle.entering.specs.Enter.{slot_bytes}
-use Rattle.solve.proofs.Outcomes.{Fitting, fitting_so, part-long, after-long, outcome_misfit, outcome-page, outcome-singular}
+use Rattle.solve.proofs.Outcomes.{Fitting, fitting_so, part-long, after-long, outcome-page, outcome-singular}
 use Rattle.solve.proofs.solve.Goals as goal
 use Rattle.solve.proofs.solve.Goals.{After-write_page-all, Else-not-fitting}
-
-pub returns-then-not-fitting : goal.returns-then-not-fitting
-returns-then-not-fitting c =
-    let A = c.args in
-    let told = outcome_misfit A.n A.l A.list.now A.roles.now A.slots.now A.page.now c.fitting.result c.fitting.ensures (ap not c.if-not-fitting.true) in
-    record { answer = told.0; slots = told.1.0; page = told.1.1 }
 
 -- the arguments fit
 abbrev Held : (c : Else-not-fitting) → Type 0
@@ -28,10 +22,6 @@ held : (c : Else-not-fitting) → Held c
 held c =
     let A = c.args in
     fitting_so A.n A.l A.list.now A.roles.now A.slots.now A.page.now c.fitting.result c.fitting.ensures (ap not c.if-not-fitting.false)
-
-pub slice_bounds-write_page-end : goal.slice_bounds-write_page-end
-unfolding slot_bytes
-slice_bounds-write_page-end c = omega (arith, (held (goal.at.slice_bounds-write_page-end c).Else-not-fitting).wide)
 
 pub slice_bounds-write_page-end-2 : goal.slice_bounds-write_page-end-2
 unfolding slot_bytes
@@ -54,11 +44,7 @@ long : (c : After-write_page-all) → Long c
 unfolding slot_bytes
 long c =
     let A = c.args in
-    after-long A.n A.l A.list.now A.roles.now A.slots.now A.page.now (let A = c.args in
-    fitting_so A.n A.l A.list.now A.roles.now A.slots.now A.page.now c.fitting.result c.fitting.ensures (ap not c.if-not-fitting.false)) c.write_page-all.new.slots c.write_page-all.auto.slots
-
-pub slice_bounds-clear-end : goal.slice_bounds-clear-end
-slice_bounds-clear-end c = omega (arith, long (goal.at.slice_bounds-clear-end c).After-write_page-all)
+    after-long A.n A.l A.list.now A.roles.now A.slots.now A.page.now (fitting_so A.n A.l A.list.now A.roles.now A.slots.now A.page.now c.fitting.result c.fitting.ensures (ap not c.if-not-fitting.false)) c.write_page-all.new.slots c.write_page-all.auto.slots
 
 pub slice_bounds-clear-end-2 : goal.slice_bounds-clear-end-2
 slice_bounds-clear-end-2 c =

@@ -22,7 +22,7 @@ loop-i-preserved c =
     let loop = c.loop-i in
     let bytes = c.args.bytes.now in
     rw (c.letter.ensures, c.letter-in-loop-i.ensures)
-    (spelling-more bytes c.args.text.now loop.text loop.i c.requires c.loop-i-test.true loop.invariant)
+    (spelling-more bytes c.args.text.now loop.text loop.i c.requires (omega arith) loop.invariant)
 
 pub shape_of-text : goal.shape_of-text
 shape_of-text c = c.loop-i.invariant.long

@@ -1,4 +1,4 @@
-use Prim.Native.Nat.{◌-◌, ◌*◌}
+use Prim.Native.Nat.{◌*◌}
 use lib.ListN.{length}
 use Rattle.octets.proofs.Fill.{Filling}
 use Rattle.spelling.specs.Spelling.{spelling}
@@ -6,6 +6,3 @@ use Rattle.spelling.proofs.write_digits.Given as goal
 
 abbrev pub invariant-loop-i : goal.invariant-loop-i
 invariant-loop-i l = Filling (spelling l.bytes) l.initial.text l.text (2 * length l.bytes) (2 * l.i)
-
-abbrev pub decreases-loop-i : goal.decreases-loop-i
-decreases-loop-i l = length l.bytes - l.i

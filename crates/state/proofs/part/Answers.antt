@@ -4,22 +4,21 @@ use mathlib.Core.Path.{◌≡◌, sym, ap}
 use Prim.Native.Nat.{ℕ, ◌+◌, ◌-◌, ◌*◌}
 use native.Mathlib.Nat.{zero-add}
 use native.Mathlib.Omega.{arith}
-use Rattle.state.specs.Layout.{state_bytes}
+use lib.ListN.{take}
+use Rattle.state.specs.Layout.{state_bytes, part_at, part}
 use Rattle.state.proofs.Sizes.{sizes}
 use Rattle.state.proofs.Parts.{too_many, too_short, part_is}
 use Rattle.state.proofs.part.Goals as goal
+use Rattle.state.proofs.part.Goals.{then-most-n-via-then-most-n, then-most-n-via-else-most-n+then-state-lt-BYTES}
 
 pub returns-then-most-n : goal.returns-then-most-n
+unfolding state_bytes
 returns-then-most-n c =
     let A = c.args in
-    let none = too_many A.at A.most A.n A.state.now c.if-most-n.true in
-    record { shows = sym none.1; points = rw none.0 (ap (λ (k : ℕ). (A.state.ref_ptr.0, k)) (sym (zero-add _))) }
-
-pub returns-then-state-lt-BYTES : goal.returns-then-state-lt-BYTES
-unfolding state_bytes
-returns-then-state-lt-BYTES c =
-    let A = c.args in
-    let none = too_short A.at A.most A.n A.state.now c.if-most-n.false c.if-state-lt-BYTES.true in
+    let none : (part_at A.at A.most A.n A.state.now ≡ 0) × (part A.at A.most A.n A.state.now ≡ take 0 A.state.now) = elim c.then-most-n.branch [
+      | then-most-n-via-then-most-n w ↦ too_many A.at A.most A.n A.state.now w.if-most-n.true
+      | then-most-n-via-else-most-n+then-state-lt-BYTES w ↦ too_short A.at A.most A.n A.state.now w.if-most-n.false w.if-state-lt-BYTES.true
+    ] in
     record { shows = sym none.1; points = rw none.0 (ap (λ (k : ℕ). (A.state.ref_ptr.0, k)) (sym (zero-add _))) }
 
 pub overflow_mul-end : goal.overflow_mul-end

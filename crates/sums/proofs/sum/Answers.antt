@@ -29,7 +29,7 @@ returns-then-l-eq0 c =
     c.clear.ensures ∙ rw none
 
 pub add_named-requires : goal.add_named-requires
-add_named-requires c = (omega arith, rw c.low.ensures (mod-lt _ (pow_pos _)))
+add_named-requires c = record { some = omega arith; inside = rw c.low.ensures (mod-lt _ (pow_pos _)) }
 
 pub returns : goal.returns
 returns c =

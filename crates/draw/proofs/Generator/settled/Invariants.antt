@@ -1,9 +1,7 @@
-use Rattle.std.proofs.Common.{◌≡◌, ◌-◌, ◌≤◌}
+use Rattle.std.proofs.Common.{◌≡◌}
 use Rattle.draw.specs.Draw.{start, steps}
 use Rattle.draw.proofs.Generator.settled.Given as goal
 
+-- as many steps as the counter says have been made from the start
 abbrev pub invariant-loop : goal.invariant-loop
-invariant-loop l = (l.counter ≤ 20) × (l.g ≡ steps l.counter (start l.seed))
-
-abbrev pub decreases-loop : goal.decreases-loop
-decreases-loop l = 20 - l.counter
+invariant-loop l = l.g ≡ steps l.counter (start l.seed)

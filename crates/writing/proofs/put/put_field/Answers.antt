@@ -1,20 +1,14 @@
 -- `writing::put::put_field` meets its contract: two parts, tag and length and then the value.
 -- Assumes nothing.
-use mathlib.Core.Path.{sym, ap, ◌∙◌}
+use mathlib.Core.Path.{ap, ◌∙◌}
 use Prim.Native.Nat.{ℕ}
 use native.Mathlib.Omega.{arith}
 use Rattle.octets.specs.Octets.{bytes}
 use Rattle.octets.proofs.Numbers.{length-bytes}
 use Rattle.frame.specs.Layout.{mark, field_bytes}
 use Rattle.frame.proofs.Lengths.{length-mark}
-use Rattle.octets.proofs.Parts.{part-long, second-long, two-filled}
+use Rattle.octets.proofs.Parts.{second-long, two-filled}
 use Rattle.writing.proofs.put.put_field.Goals as goal
-
-pub slice_bounds-put_mark-end-2 : goal.slice_bounds-put_mark-end-2
-slice_bounds-put_mark-end-2 c = sym (part-long 0 3 c.args.into.now (omega arith))
-
-pub put_mark-requires : goal.put_mark-requires
-put_mark-requires c = part-long 0 3 c.args.into.now (omega arith)
 
 pub returns : goal.returns
 unfolding field_bytes

@@ -1,29 +1,16 @@
 -- `writing::put::put_mark` meets its contract: the tag, and behind it the two bytes of the length.
 -- Assumes nothing.
 use mathlib.Core.Path.{◌≡◌, refl, ap, ◌∙◌}
-use Prim.Native.Nat.{ℕ, ◌-◌}
+use Prim.Native.Nat.{ℕ}
 use native.Mathlib.Omega.{arith}
 use mathlib.Core.List.{[], ◌∷◌, ◌++◌}
-use lib.ListN.{length, drop, set, length-set}
+use lib.ListN.{drop, set}
 use lib.Seq.{set_split}
-use borrow.Rule.Slice.PartMut.{same_len_mid}
 use Rattle.octets.specs.Octets.{bytes}
 use Rattle.octets.proofs.Numbers.{length-bytes}
 use Rattle.frame.specs.Layout.{mark}
 use Rattle.octets.proofs.Parts.{second-long, two-filled}
 use Rattle.writing.proofs.put.put_mark.Goals as goal
-
-pub slice_bounds-put-count : goal.slice_bounds-put-count
-slice_bounds-put-count c = simp length-set (omega arith)
-
-pub slice_bounds-put-start : goal.slice_bounds-put-start
-slice_bounds-put-start c = simp length-set (omega arith)
-
-pub shape_of-into : goal.shape_of-into
-shape_of-into c =
-    let a = c.args in
-    let tagged = set a.into.now 0 a.tag in
-    same_len_mid 1 (length tagged - 1) tagged c.put.new.into c.put.auto.into ∙ length-set a.into.now 0 a.tag
 
 pub returns : goal.returns
 unfolding mark
