@@ -38,7 +38,7 @@ fn finish_from(
     ensures behind { over zeros scratch.new ≡ over zeros scratch.old }
 {
     let state = &mut scratch[..state::BYTES];
-    state.copy_from_slice(working);
+    octets::copy(state, working);
     tail::finish(
         head.n, head.l, list, head.taken, head.rank, state, roles, page,
     )

@@ -4,7 +4,12 @@
 ghost use Rattle.std.specs.Prelude.{◌≡◌};
 ghost use Rattle.draw.specs.Draw.{drawn, constraint_of};
 
+use arrayvec::ArrayString;
+use std::fmt::Write;
 use std::{fmt, io};
+
+// A seed's 8 digits, a space and 16 digits for each n, and the line's end.
+const LINE: usize = 8 + 64 * 17 + 1;
 
 const SEEDS: u32 = 104;
 
@@ -40,9 +45,16 @@ impl fmt::Display for Draws {
     }
 }
 
+// A line is written at once: std's println hands over 1,024 bytes at most.
+fn print(rt: &impl Print, seed: u32) -> io::Result<()> {
+    let mut line = ArrayString::<LINE>::new();
+    let _ = write!(line, "{}\n", Draws(seed));
+    rt.write_all(line.as_str().as_bytes())
+}
+
 fn main(rt: HostRuntime) -> io::Result<()> {
     for i in 0..SEEDS {
-        rt.println(Draws(seed_at(i)))?;
+        print(&rt, seed_at(i))?;
     }
     Ok(())
 }

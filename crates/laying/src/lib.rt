@@ -31,7 +31,7 @@ fn put_entry(entry: &mut [u8], seed: u32, constraint: u64, payload: &[u8])
     ensures { entry.new ≡ bytes seed_bytes seed ++ (bytes 8 constraint ++ payload.now) }
 {
     making::put_head(entry, seed, constraint);
-    entry[rows::HEAD..].copy_from_slice(payload);
+    octets::copy(&mut entry[rows::HEAD..], payload);
 }
 
 // The row of a good frame of l payload bytes, with its seed, into its place.

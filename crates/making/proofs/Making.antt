@@ -8,7 +8,7 @@ use native.Mathlib.Omega.{arith}
 use lib.Dec.{eqb}
 use lib.ListN.{length, take, drop, length-append}
 use lib.Seq.{length-take-le}
-use borrow.Author.Tests.{lt-leb, le-leb}
+use borrow.Author.Tests.{eq-eqb, ne_eqb, lt-ltb, le-ltb, lt-leb, le-leb}
 use borrow.Rule.Slice.PartMut.{put_mid, mid_len}
 use Rattle.octets.specs.Octets.{bytes, over}
 use Rattle.octets.proofs.Numbers.{length-bytes}
@@ -33,6 +33,30 @@ pub record Makes (n l c page room : ℕ) : Type 0 where
   pub sized : page ≡ n * l
   pub plain : stray n c ≡ false
   pub roomy : list_row_bytes l ≤ room
+
+-- Each answer, from what holds of the lengths and the constraint.
+module _ (n l c page room : ℕ) where
+  pub answer-shape : shape n l ≡ false → make_answer n l c page room ≡ Err Shape
+  unfolding make_answer
+  answer-shape s = rw s
+
+  module _ (s : shape n l ≡ true) where
+    pub answer-length : (page ≡ n * l → ⊥) → make_answer n l c page room ≡ Err Length
+    unfolding make_answer
+    answer-length e = rw (s, ne_eqb page (n * l) e)
+
+    module _ (e : page ≡ n * l) where
+      pub answer-stray : stray n c ≡ true → make_answer n l c page room ≡ Err Stray
+      unfolding make_answer
+      answer-stray t = rw (s, eq-eqb page (n * l) e, t)
+
+      pub answer-room : stray n c ≡ false → room < list_row_bytes l → make_answer n l c page room ≡ Err Room
+      unfolding make_answer
+      answer-room t h = rw (s, eq-eqb page (n * l) e, t, lt-ltb room (list_row_bytes l) h)
+
+      pub answer-row : stray n c ≡ false → list_row_bytes l ≤ room → make_answer n l c page room ≡ Ok tt
+      unfolding make_answer
+      answer-row t h = rw (s, eq-eqb page (n * l) e, t, le-ltb room (list_row_bytes l) h)
 
 pub row_makes : (n l c page room : ℕ) → make_answer n l c page room ≡ Ok tt → Makes n l c page room
 unfolding make_answer

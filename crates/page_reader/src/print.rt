@@ -1,27 +1,38 @@
-// The lines of the output, each written at once: std's print hands over a line of up to 1024 bytes by one write, and the page is
-// spelt by `spelling`, whose contract says each character.
+// The lines of the output, each written at once, from a text that has room for the longest line, whatever its numbers are: std's println would keep a buffer of
+// 1,024 bytes on the stack for each. The page is spelt by `spelling`, whose contract says each character.
 ghost use Rattle.std.specs.Prelude.{◌≤◌, length};
 
+use arrayvec::ArrayString;
 use lines::{Page, Refused};
 use reading::Answer;
+use std::fmt::Write;
 use std::io;
 
 // "Each early line is the line number and its result."
 pub(crate) fn result(rt: &impl Print, number: u64, line: Result<(), Refused>) -> io::Result<()> {
-    match line {
-        Ok(()) => println!(rt; "{number} row"),
-        Err(refused) => println!(rt; "{number} refused {} at {}", refused.number, refused.place),
-    }
+    let mut text = ArrayString::<96>::new();
+    let _ = match line {
+        Ok(()) => write!(text, "{number} row\n"),
+        Err(refused) => write!(
+            text,
+            "{number} refused {} at {}\n",
+            refused.number, refused.place
+        ),
+    };
+    rt.write_all(text.as_str().as_bytes())
 }
 
 // "The page line gives page number, n, L, rows laid, rank, answer number, agreement."
 pub(crate) fn answer(rt: &impl Print, page: Page, rows: usize, answer: Answer) -> io::Result<()> {
     let Page { number, n, l } = page;
     let told = answer_numbers::numbers_of(answer);
-    println!(rt;
-        "page {number} symbols {n} bytes {l} rows {rows} kept {} answer {} agree {}",
+    let mut text = ArrayString::<256>::new();
+    let _ = write!(
+        text,
+        "page {number} symbols {n} bytes {l} rows {rows} kept {} answer {} agree {}\n",
         told.rank, told.number, told.agreement
-    )
+    );
+    rt.write_all(text.as_str().as_bytes())
 }
 
 // "The page follows in lower-case hexadecimal". What stands behind the digits is a newline.
@@ -38,5 +49,5 @@ pub(crate) fn page(rt: &impl Print, bytes: &[u8]) -> io::Result<()>
 
 // "With no good frame the last line is `no page`."
 pub(crate) fn no_page(rt: &impl Print) -> io::Result<()> {
-    println!(rt; "no page")
+    rt.write_all(b"no page\n")
 }

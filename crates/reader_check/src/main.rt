@@ -26,6 +26,10 @@ impl Lent {
         requires uses { uses ≤ 513 }
         requires roles { roles ≤ 513 }
         requires scratch { scratch ≤ 32769 }
+        ensures page { result.page ≡ page }
+        ensures uses { result.uses ≡ uses }
+        ensures roles { result.roles ≡ roles }
+        ensures scratch { result.scratch ≡ scratch }
     {
         Lent {
             page,
